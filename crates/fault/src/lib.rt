@@ -1,0 +1,53 @@
+// Why a call is turned away: document 01's table of causes.
+ghost use mathlib.Core.Path.{_≡_};
+ghost use Rattle.fault.specs.Number.{numberOf};
+
+// One variant for each of the table's twelve causes, in its words.
+pub enum Fault {
+    // 1: a box, frame, point, fringe or position number is not finite, or its size is over 2^20
+    NumberOutOfRange,
+    // 2: a half extent or radius below 0, or a radius over its half extent
+    ImproperBox,
+    // 3: a mask width or height over 4,096
+    MaskTooLarge,
+    // 4: mask, other mask or scratch too short
+    BufferTooShort,
+    // 5: a word list ends inside a group
+    ListEndsEarly,
+    // 6: a count word below 0, or points passing 2,048 in the list
+    CountOutOfRange,
+    // 7: a coordinate word beyond ±1,048,576
+    CoordinateOutOfRange,
+    // 8: a verb byte above 5
+    UnknownVerb,
+    // 9: verbs need more positions than given, or fewer
+    PositionsMismatch,
+    // 10: a curve verb given to the fitter
+    CurveVerb,
+    // 11: over 256 verbs
+    TooManyVerbs,
+    // 12: over 256 boxes in a touch list
+    TooManyBoxes,
+}
+
+impl Fault {
+    // The table's number.
+    pub fn number(self) -> u8
+        ensures { λ r. ⌜ r ≡ numberOf self ⌝ }
+    {
+        match self {
+            Fault::NumberOutOfRange => 1,
+            Fault::ImproperBox => 2,
+            Fault::MaskTooLarge => 3,
+            Fault::BufferTooShort => 4,
+            Fault::ListEndsEarly => 5,
+            Fault::CountOutOfRange => 6,
+            Fault::CoordinateOutOfRange => 7,
+            Fault::UnknownVerb => 8,
+            Fault::PositionsMismatch => 9,
+            Fault::CurveVerb => 10,
+            Fault::TooManyVerbs => 11,
+            Fault::TooManyBoxes => 12,
+        }
+    }
+}

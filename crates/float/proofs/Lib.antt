@@ -1,0 +1,12 @@
+pub mod Simple
+pub mod Pattern
+pub mod Shift
+pub mod Fields
+pub mod Narrowing
+pub mod Roots
+pub mod RootLoop
+pub mod Rooting
+pub mod Whole
+pub mod Cast
+pub mod RootBelief
+pub mod Controls

@@ -1,0 +1,20 @@
+-- `float::from_whole` meets its contract: the cast is exact. Assumes nothing.
+use mathlib.Core.Path.{sym, subst}
+use native.Mathlib.Omega.{arith}
+use lib.Dec.{T}
+use Prim.Native.Nat.{_^_}
+use lib.Ieee.{inFloat, ofInt, binary32}
+use borrow.Author.Tests.{le-leb}
+use borrow.Author.Needs.{needs}
+use Rattle.float.proofs.from_whole.Statement.{statement}
+use Rattle.float.proofs.from_whole.Tie as tie
+
+int-to-float-result : tie.Need-int-to-float-result
+unfolding inFloat
+int-to-float-result c = subst T (sym (le-leb (c .before .args .n) (2 ^ 24) (c .before .pre))) tt
+
+returns : tie.Need-returns
+returns c = search needs
+
+pub from-whole-spec : {M : Type 1} → statement M
+from-whole-spec = tie.close (tie.spec int-to-float-result returns)

@@ -1,0 +1,38 @@
+-- A finite float taken apart, and what the helpers over its parts promise to each other. Nothing that a caller of the crate sees rests on these. Definitions only.
+use mathlib.Core.Path.{_≡_}
+use mathlib.Core.Logic.{_⊎_}
+use mathlib.Core.Bool.{Bool}
+use Prim.Native.Nat.{ℕ, zero, suc, _*_, _^_, _+_, _/_, _%_, _≤_, _<_, Ordering, Ordering·lt, Ordering·eq, Ordering·gt}
+use lib.Ieee.{Float, Format, prec, emax, low, hid, nearest}
+use lib.Ieee.Exact.{HasValue}
+
+-- x has the sign s and is d * 2 ^ e of the format's smallest values. The leading digit is among d's unless e is 0
+pub record Unpacked (f : Format) (x : Float) (s : Bool) (d e : ℕ) : Type 0 where
+  pub value : HasValue x s (d * 2 ^ e) (2 ^ low f)
+  pub small : d < 2 ^ prec f
+  pub fields : e < emax f + emax f
+  pub full : (e ≡ 0) ⊎ (hid f ≤ d)
+
+-- root is the whole root, with rest left over, of a number's `steps` leading pairs of digits, the number being a with pairs of zeros after its 64 digits
+pub record RootDigits (a steps root rest : ℕ) : Type 0 where
+  pub square : root * root + rest ≡ a * 4 ^ steps / 2 ^ 64
+  pub left : rest ≤ 2 * root
+  pub short : root < 2 ^ steps
+
+-- d moved up by s places, where e + s is even, to 63 or 64 digits
+pub record AlignedBy (d e a s : ℕ) : Type 0 where
+  pub moved : a ≡ d * 2 ^ s
+  pub high : 2 ^ 62 ≤ a
+  pub fits : a < 2 ^ 64
+  pub even : (e + s) % 2 ≡ 0
+  pub under : s < 64
+
+-- how a root compares with a half past r / 2, r being its digits, one more than the format keeps: t is 0 only where r is exact
+abbrev pub sideOfHalf : ℕ → ℕ → Ordering
+sideOfHalf zero t = Ordering·lt
+sideOfHalf (suc b) zero = Ordering·eq
+sideOfHalf (suc b) (suc t) = Ordering·gt
+
+-- the whole number that r / 2 is rounded to
+abbrev pub roundedHalf : ℕ → ℕ → ℕ
+roundedHalf r t = nearest (r / 2) (sideOfHalf (r % 2) t)

@@ -1,0 +1,481 @@
+// Float helpers that the language lacks. Each contract gives the result outright, for every
+// argument, as a definition of specs/ over the logic's account of IEEE 754 (lib.Ieee).
+ghost use mathlib.Core.Path.{_≡_};
+ghost use mathlib.Core.Logic.{_⊎_};
+ghost use Prim.Native.Nat.{_*_, _^_, _≤_, _<_};
+ghost use lib.Dec.{T};
+ghost use mathlib.Core.Bool.{true, false};
+ghost use lib.Ieee.{inf, binary32, binary64, units, round};
+ghost use lib.Ieee.Nearest.{closest};
+ghost use lib.Ieee.Positive.{positive};
+ghost use lib.Ieee.Scale.{finite};
+ghost use Rattle.float.specs.Simple.{absOf, minOf, maxOf, signumOf};
+ghost use Rattle.float.specs.Width.{narrowOf};
+ghost use Rattle.float.specs.Whole.{wholeDiv, floorOf, ceilOf, columnOf, byteOf, ofWhole};
+ghost use Rattle.float.specs.Root.{sqrtOf, hypotOf};
+ghost use Rattle.float.specs.Parts.{Unpacked, RootDigits, AlignedBy, roundedHalf};
+
+// No constant can be an infinity, so it is a function.
+pub fn infinity() -> f32
+    ensures { λ r. ⌜ r ≡ inf false ⌝ }
+{
+    1.0 / 0.0
+}
+
+// The size of x. A zero comes back as +0.
+pub fn abs(x: f32) -> f32
+    ensures { λ r. ⌜ r ≡ absOf x ⌝ }
+{
+    if x < 0.0 {
+        return -x;
+    }
+    if x == 0.0 {
+        return 0.0;
+    }
+    x
+}
+
+// x, unless y is strictly larger or x is a NaN.
+pub fn max(x: f32, y: f32) -> f32
+    ensures { λ r. ⌜ r ≡ maxOf x y ⌝ }
+{
+    if x != x {
+        return y;
+    }
+    if x < y {
+        return y;
+    }
+    x
+}
+
+// x, unless y is strictly smaller or x is a NaN.
+pub fn min(x: f32, y: f32) -> f32
+    ensures { λ r. ⌜ r ≡ minOf x y ⌝ }
+{
+    if x != x {
+        return y;
+    }
+    if y < x {
+        return y;
+    }
+    x
+}
+
+// 1 or -1 by x's sign bit; a NaN stays a NaN.
+pub fn signum(x: f32) -> f32
+    ensures { λ r. ⌜ r ≡ signumOf x ⌝ }
+{
+    if x < 0.0 {
+        return -1.0;
+    }
+    if x > 0.0 {
+        return 1.0;
+    }
+    if x == 0.0 {
+        if 1.0 / x < 0.0 {
+            return -1.0;
+        }
+        return 1.0;
+    }
+    x
+}
+
+// Whether x is neither a NaN nor an infinity.
+pub fn is_finite(x: f32) -> bool
+    ensures { λ r. ⌜ r ≡ finite x ⌝ }
+{
+    let top = infinity();
+    if x < top {
+        return -top < x;
+    }
+    false
+}
+
+// ---- a float taken apart and put together
+
+// A finite float: digits * 2 ^ exponent of its format's smallest values.
+pub struct Parts {
+    pub negative: bool,
+    pub digits: u64,
+    pub exponent: u64,
+}
+
+pub fn unpack64(x: f64) -> Parts
+    requires { ⌜ T (finite x) ⌝ }
+    ensures { λ r. ⌜ Unpacked binary64 x (r .negative) (r .digits) (r .exponent) ⌝ }
+{
+    let bits = f64::to_bits(x);
+    let negative = bits >= 0x8000_0000_0000_0000;
+    let field = bits % 0x8000_0000_0000_0000 / 0x10_0000_0000_0000;
+    let digits = bits % 0x10_0000_0000_0000;
+    if field == 0 {
+        return Parts {
+            negative,
+            digits,
+            exponent: 0,
+        };
+    }
+    Parts {
+        negative,
+        digits: digits + 0x10_0000_0000_0000,
+        exponent: field - 1,
+    }
+}
+
+pub fn unpack32(x: f32) -> Parts
+    requires { ⌜ T (finite x) ⌝ }
+    ensures { λ r. ⌜ Unpacked binary32 x (r .negative) (r .digits) (r .exponent) ⌝ }
+{
+    let bits = f32::to_bits(x) as u64;
+    let negative = bits >= 0x8000_0000;
+    let field = bits % 0x8000_0000 / 0x80_0000;
+    let digits = bits % 0x80_0000;
+    if field == 0 {
+        return Parts {
+            negative,
+            digits,
+            exponent: 0,
+        };
+    }
+    Parts {
+        negative,
+        digits: digits + 0x80_0000,
+        exponent: field - 1,
+    }
+}
+
+// q * 2 ^ k of the smallest values of an f32, or an infinity where that is too large.
+pub fn pack32(negative: bool, q: u64, k: u64) -> f32
+    requires { ⌜ q ≤ 2 ^ 24 ⌝ }
+    requires { ⌜ k < 2 ^ 12 ⌝ }
+    requires { ⌜ (k ≡ 0) ⊎ (2 ^ 23 ≤ q) ⌝ }
+    ensures { λ r. ⌜ r ≡ units binary32 negative q k ⌝ }
+{
+    let pattern = k * 0x80_0000 + q;
+    if pattern < 0x7f80_0000 {
+        if negative {
+            return f32::from_bits((0x8000_0000 + pattern) as u32);
+        }
+        return f32::from_bits(pattern as u32);
+    }
+    if negative {
+        return f32::from_bits(0xff80_0000);
+    }
+    f32::from_bits(0x7f80_0000)
+}
+
+// The same for an f64.
+pub fn pack64(negative: bool, q: u64, k: u64) -> f64
+    requires { ⌜ q ≤ 2 ^ 53 ⌝ }
+    requires { ⌜ k < 2 ^ 11 ⌝ }
+    requires { ⌜ (k ≡ 0) ⊎ (2 ^ 52 ≤ q) ⌝ }
+    ensures { λ r. ⌜ r ≡ units binary64 negative q k ⌝ }
+{
+    let pattern = k * 0x10_0000_0000_0000 + q;
+    if pattern < 0x7ff0_0000_0000_0000 {
+        if negative {
+            return f64::from_bits(0x8000_0000_0000_0000 + pattern);
+        }
+        return f64::from_bits(pattern);
+    }
+    if negative {
+        return f64::from_bits(0xfff0_0000_0000_0000);
+    }
+    f64::from_bits(0x7ff0_0000_0000_0000)
+}
+
+// a / unit to the nearest whole number, ties to even.
+pub fn nearest_div(a: u64, unit: u64) -> u64
+    requires { ⌜ a < 2 ^ 62 ⌝ }
+    requires { ⌜ 0 < unit ⌝ }
+    ensures { λ r. ⌜ r ≡ closest a unit ⌝ }
+{
+    let q = a / unit;
+    let rest = a % unit;
+    let lacks = unit - rest;
+    if rest < lacks {
+        return q;
+    }
+    if lacks < rest {
+        return q + 1;
+    }
+    q + q % 2
+}
+
+// ---- changes of width
+
+// x at the wider format, which holds every f32. A NaN stays a NaN.
+pub fn widen(x: f32) -> f64
+    ensures { λ r. ⌜ r ≡ x ⌝ }
+{
+    std::num::f32_to_f64_with_nan(x)
+}
+
+// The f32 nearest to a finite x, ties to even.
+pub fn narrow_finite(x: f64) -> f32
+    requires { ⌜ T (finite x) ⌝ }
+    ensures { λ r. ⌜ r ≡ narrowOf x ⌝ }
+{
+    let p = unpack64(x);
+    let e = p.exponent;
+    if 896 <= e {
+        // 29 digits are dropped: the result is not subnormal
+        let q = nearest_div(p.digits, 0x2000_0000);
+        return pack32(p.negative, q, e - 896);
+    }
+    if 863 <= e {
+        let q = nearest_div(p.digits, 1 << (925 - e));
+        return pack32(p.negative, q, 0);
+    }
+    // less than half of the smallest f32
+    pack32(p.negative, 0, 0)
+}
+
+// The f32 nearest to x, ties to even; a NaN and the infinities stay.
+pub fn narrow(x: f64) -> f32
+    ensures { λ r. ⌜ r ≡ narrowOf x ⌝ }
+{
+    if x != x {
+        return 0.0 / 0.0;
+    }
+    let top: f64 = 1.0 / 0.0;
+    if x == top {
+        return infinity();
+    }
+    if x == -top {
+        return -infinity();
+    }
+    narrow_finite(x)
+}
+
+// ---- square roots
+
+// A whole root, and what its square lacks.
+pub struct Root {
+    pub root: u64,
+    pub rest: u64,
+}
+
+// The first `steps` binary digits of a's root, a pair of a's digits for each, from the highest, and
+// of zeros after those 64.
+pub fn root_digits(a: u64, steps: u64) -> Root
+    requires { ⌜ steps ≤ 54 ⌝ }
+    ensures { λ r. ⌜ RootDigits a steps (r .root) (r .rest) ⌝ }
+{
+    let mut left = a;
+    let mut root: u64 = 0;
+    let mut rest: u64 = 0;
+    let mut i: u64 = 0;
+    while i < steps {
+        rest = rest * 4 + left / 0x4000_0000_0000_0000;
+        left = left % 0x4000_0000_0000_0000 * 4;
+        let trial = root * 4 + 1;
+        root = root * 2;
+        if trial <= rest {
+            rest = rest - trial;
+            root = root + 1;
+        }
+        i += 1;
+    }
+    Root { root, rest }
+}
+
+// root / 2 to the nearest whole number: below, at or above a half by root's last digit, with rest 0
+// only where root is exact. Ties to even.
+pub fn round_root(root: u64, rest: u64) -> u64
+    ensures { λ r. ⌜ r ≡ roundedHalf root rest ⌝ }
+{
+    let q = root / 2;
+    if root % 2 == 0 {
+        return q;
+    }
+    if rest == 0 {
+        return q + q % 2;
+    }
+    q + 1
+}
+
+pub struct Aligned {
+    pub a: u64,
+    pub shift: u64,
+}
+
+// d moved up as far as 64 digits allow with e + shift even.
+pub fn align(d: u64, e: u64) -> Aligned
+    requires { ⌜ 0 < d ⌝ }
+    requires { ⌜ d < 2 ^ 60 ⌝ }
+    requires { ⌜ e < 2 ^ 12 ⌝ }
+    ensures { λ r. ⌜ AlignedBy d e (r .a) (r .shift) ⌝ }
+{
+    let zeros = u64::leading_zeros(d) as u64;
+    let shift = zeros - (e + zeros) % 2;
+    Aligned {
+        a: d << shift,
+        shift,
+    }
+}
+
+// The root of a number above 0, rounded once: 54 digits of it are found, one more than an f64 keeps.
+pub fn root64(x: f64) -> f64
+    requires { ⌜ T (positive x) ⌝ }
+    ensures { λ r. ⌜ r ≡ sqrtOf binary64 x ⌝ }
+{
+    let p = unpack64(x);
+    let e = p.exponent;
+    let up = align(p.digits, e);
+    let r = root_digits(up.a, 54);
+    pack64(false, round_root(r.root, r.rest), (e + 1032 - up.shift) / 2)
+}
+
+// The same of an f32, by 25 digits.
+pub fn root32(x: f32) -> f32
+    requires { ⌜ T (positive x) ⌝ }
+    ensures { λ r. ⌜ r ≡ sqrtOf binary32 x ⌝ }
+{
+    let p = unpack32(x);
+    let e = p.exponent;
+    let up = align(p.digits, e + 1);
+    let r = root_digits(up.a, 25);
+    pack32(false, round_root(r.root, r.rest), (e + 165 - up.shift) / 2)
+}
+
+// IEEE 754's square root.
+pub fn sqrt64(x: f64) -> f64
+    ensures { λ r. ⌜ r ≡ sqrtOf binary64 x ⌝ }
+{
+    if x > 0.0 {
+        let top: f64 = 1.0 / 0.0;
+        if x == top {
+            return x;
+        }
+        return root64(x);
+    }
+    if x == 0.0 {
+        return x;
+    }
+    0.0 / 0.0
+}
+
+pub fn sqrt(x: f32) -> f32
+    ensures { λ r. ⌜ r ≡ sqrtOf binary32 x ⌝ }
+{
+    if x > 0.0 {
+        if x == infinity() {
+            return x;
+        }
+        return root32(x);
+    }
+    if x == 0.0 {
+        return x;
+    }
+    0.0 / 0.0
+}
+
+// The root of the sum of squares, by f64 and rounded to f32 at the end.
+pub fn hypot(x: f32, y: f32) -> f32
+    ensures { λ r. ⌜ r ≡ hypotOf x y ⌝ }
+{
+    let a = widen(x);
+    let b = widen(y);
+    narrow(sqrt64(a * a + b * b))
+}
+
+// ---- whole numbers
+
+// d * 2 ^ e of the smallest values of an f32 as a whole number: cut, and away from zero.
+pub struct Cuts {
+    pub low: u64,
+    pub high: u64,
+}
+
+pub fn cut_whole(d: u64, e: u64) -> Cuts
+    requires { ⌜ d < 2 ^ 24 ⌝ }
+    requires { ⌜ e < 149 ⌝ }
+    ensures { λ r. ⌜ (r .low ≡ wholeDiv false (d * 2 ^ e) (2 ^ 149)) × (r .high ≡ wholeDiv true (d * 2 ^ e) (2 ^ 149)) × (r .high ≤ 2 ^ 24) ⌝ }
+{
+    if e < 100 {
+        // below 1
+        if d == 0 {
+            return Cuts { low: 0, high: 0 };
+        }
+        return Cuts { low: 0, high: 1 };
+    }
+    let unit = 1 << (149 - e);
+    let low = d / unit;
+    if d % unit == 0 {
+        return Cuts { low, high: low };
+    }
+    Cuts { low, high: low + 1 }
+}
+
+// n as a float, exactly.
+pub fn from_whole(n: usize) -> f32
+    requires { ⌜ n ≤ 2 ^ 24 ⌝ }
+    ensures { λ r. ⌜ r ≡ ofWhole n ⌝ }
+{
+    n as f32
+}
+
+// x without its fraction as a column, held between 0 and 8,191; a NaN gives 0.
+pub fn to_column(x: f32) -> usize
+    ensures { λ r. ⌜ r ≡ columnOf x ⌝ }
+{
+    if x >= 8192.0 {
+        return 8191;
+    }
+    if x > -1.0 {
+        return std::num::truncating_f32_to_u64(x) as usize;
+    }
+    0
+}
+
+// x without its fraction, held between 0 and 255; a NaN gives 0.
+pub fn to_byte(x: f32) -> u8
+    ensures { λ r. ⌜ r ≡ byteOf x ⌝ }
+{
+    if x >= 256.0 {
+        return 255;
+    }
+    if x > -1.0 {
+        return std::num::truncating_f32_to_u64(x) as u8;
+    }
+    0
+}
+
+// The largest whole number that is no larger than x; a NaN and the infinities stay.
+pub fn floor(x: f32) -> f32
+    ensures { λ r. ⌜ r ≡ floorOf x ⌝ }
+{
+    if is_finite(x) {
+        let p = unpack32(x);
+        let e = p.exponent;
+        if 149 <= e {
+            return x;
+        }
+        let c = cut_whole(p.digits, e);
+        if p.negative {
+            return -from_whole(c.high as usize);
+        }
+        return from_whole(c.low as usize);
+    }
+    x
+}
+
+// The smallest whole number that is no smaller than x; a NaN and the infinities stay.
+pub fn ceil(x: f32) -> f32
+    ensures { λ r. ⌜ r ≡ ceilOf x ⌝ }
+{
+    if is_finite(x) {
+        let p = unpack32(x);
+        let e = p.exponent;
+        if 149 <= e {
+            return x;
+        }
+        let c = cut_whole(p.digits, e);
+        if p.negative {
+            return -from_whole(c.low as usize);
+        }
+        return from_whole(c.high as usize);
+    }
+    x
+}
