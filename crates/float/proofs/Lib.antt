@@ -1,3 +1,4 @@
+pub mod Tests
 pub mod Simple
 pub mod Pattern
 pub mod Shift

@@ -19,19 +19,17 @@ use Rattle.float.proofs.Shift.{cmp-lt, cmp-eq, cmp-gt}
 
 -- ---- squares
 
+pub sq-even : (r : ℕ) → 2 * r * (2 * r) ≡ 4 * (r * r)
+sq-even r = omega arith
+
 pub sq-odd : (r : ℕ) → (2 * r + 1) * (2 * r + 1) ≡ 4 * (r * r) + 4 * r + 1
-sq-odd r =
-    let e : 2 * r * (2 * r) ≡ 4 * (r * r) = four r in
-    simp (add-mul, mul-add) (omega arith)
-  where
-    four : (r : ℕ) → 2 * r * (2 * r) ≡ 4 * (r * r)
-    four r = mul-assoc 2 r (2 * r) ∙ ap (λ (x : ℕ). 2 * x) (mul-left-comm r 2 r) ∙ sym (mul-assoc 2 2 (r * r))
+sq-odd r = omega arith
 
 pub sq-mono : {a b : ℕ} → a ≤ b → a * a ≤ b * b
 sq-mono h = mul-le-mul h h
 
 pub sq-next : (r : ℕ) → (r + 1) * (r + 1) ≡ r * r + 2 * r + 1
-sq-next r = simp (add-mul, mul-add) (omega arith)
+sq-next r = omega arith
 
 -- a square that is less has a smaller root
 pub root-lt : (a b : ℕ) → a * a < b * b → a < b
@@ -46,9 +44,6 @@ digit : (n r : ℕ) → IsRoot (n / 4) r → IsRoot n (rootDigit n r)
 unfolding IsRoot
 digit n r p = go (leb ((2 * r + 1) * (2 * r + 1)) n) (leb→le _ n) (nleb→lt _ n)
   where
-    even : 2 * r * (2 * r) ≡ 4 * (r * r)
-    even = mul-assoc 2 r (2 * r) ∙ ap (λ (x : ℕ). 2 * x) (mul-left-comm r 2 r) ∙ sym (mul-assoc 2 2 (r * r))
-
     go : (b : Bool) → (T b → (2 * r + 1) * (2 * r + 1) ≤ n) → (T (not b) → n < (2 * r + 1) * (2 * r + 1))
         → (cond b (2 * r + 1) (2 * r) * cond b (2 * r + 1) (2 * r) ≤ n) × (n < (cond b (2 * r + 1) (2 * r) + 1) * (cond b (2 * r + 1) (2 * r) + 1))
     go true h k =
@@ -59,7 +54,7 @@ digit n r p = go (leb ((2 * r + 1) * (2 * r + 1)) n) (leb→le _ n) (nleb→lt _
         (h tt, omega arith)
     go false h k =
         let a : r * r ≤ n / 4 = p .0 in
-        let e = even in
+        let e = sq-even r in
         (omega arith, k tt)
 
 root-is : (k n : ℕ) → n < 4 ^ k → IsRoot n (rootBelow k n)
@@ -92,11 +87,8 @@ root-unique n a b p q = le-antisymm (under (root-lt a (b + 1) (lt-of-le-of-lt (p
 by-half : (r : ℕ) → (4 * (r / 2 * (r / 2)) ≤ r * r) × (r * r + 2 * r < 4 * (r / 2 * (r / 2)) + 8 * (r / 2) + 4)
 by-half r = go (r / 2) (r % 2) (mod-lt r (lit< tt)) (omega arith)
   where
-    even : (h : ℕ) → 2 * h * (2 * h) ≡ 4 * (h * h)
-    even h = mul-assoc 2 h (2 * h) ∙ ap (λ (x : ℕ). 2 * x) (mul-left-comm h 2 h) ∙ sym (mul-assoc 2 2 (h * h))
-
     go : (h b : ℕ) → b < 2 → r ≡ 2 * h + b → (4 * (h * h) ≤ r * r) × (r * r + 2 * r < 4 * (h * h) + 8 * h + 4)
-    go h zero l e = let s : r * r ≡ 4 * (h * h) = ap (λ (x : ℕ). x * x) (e ∙ add-zero (2 * h)) ∙ even h in (omega arith, omega arith)
+    go h zero l e = let s : r * r ≡ 4 * (h * h) = ap (λ (x : ℕ). x * x) (e ∙ add-zero (2 * h)) ∙ sq-even h in (omega arith, omega arith)
     go h (suc zero) l e = let s : r * r ≡ 4 * (h * h) + 4 * h + 1 = ap (λ (x : ℕ). x * x) e ∙ sq-odd h in (omega arith, omega arith)
     go h (suc (suc b)) l e = absurd (omega arith)
 
@@ -151,9 +143,6 @@ module _ (f : Format) (num den k r t v z : ℕ) (D : 0 < den) where
     twice : 2 ^ prec f ≡ 2 * h
     twice = let p = prec-pos f in let e : suc (prec f - 1) ≡ prec f = omega arith in sym (ap (λ (x : ℕ). 2 ^ x) e) ∙ pow-succ' 2 (prec f - 1)
 
-    four : (a : ℕ) → 2 * a * (2 * a) ≡ 4 * (a * a)
-    four a = mul-assoc 2 a (2 * a) ∙ ap (λ (x : ℕ). 2 * x) (mul-left-comm a 2 a) ∙ sym (mul-assoc 2 2 (a * a))
-
     regroup : (a : ℕ) → 4 * (a * a) * u ≡ a * 2 ^ k * (a * 2 ^ k) * den * 4
     regroup a = simp (mul-assoc, mul-comm, mul-left-comm)
 
@@ -162,7 +151,7 @@ module _ (f : Format) (num den k r t v z : ℕ) (D : 0 < den) where
         le-div-iff-mul-le D .1
         (le-of-mul-le-mul-right
         (le-trans (le-of-eq (ap (λ (x : ℕ). x * x * den * 4) (pow-add 2 (prec f - 1) k) ∙ sym (regroup h)))
-        (le-trans (mul-le-mul-right u (le-trans (le-of-eq (sym (four h) ∙ ap (λ (x : ℕ). x * x) (sym twice))) (le-trans (sq-mono lo) (le-add-right (r * r) t)))) (le-trans (le-add-right ((r * r + t) * u) v) (le-of-eq (sym exact)))))
+        (le-trans (mul-le-mul-right u (le-trans (le-of-eq (sym (sq-even h) ∙ ap (λ (x : ℕ). x * x) (sym twice))) (le-trans (sq-mono lo) (le-add-right (r * r) t)))) (le-trans (le-add-right ((r * r + t) * u) v) (le-of-eq (sym exact)))))
         (lit< tt))
 
     most : n / den < 2 ^ (prec f + k) * 2 ^ (prec f + k)
@@ -177,7 +166,7 @@ module _ (f : Format) (num den k r t v z : ℕ) (D : 0 < den) where
             let a = sq-next r in
             let e : suc r ≤ 2 * 2 ^ prec f = le-trans hi (le-of-eq (pow-succ' 2 (prec f))) in
             let b : (r + 1) * (r + 1) ≤ 2 * 2 ^ prec f * (2 * 2 ^ prec f) = sq-mono (le-trans (le-of-eq (add-one r)) e) in
-            let c = four (2 ^ prec f) in
+            let c = sq-even (2 ^ prec f) in
             omega arith
 
     k-is : size (wholeRoot (n / den)) - prec f ≡ k
@@ -208,7 +197,7 @@ module _ (f : Format) (num den k r t v z : ℕ) (D : 0 < den) where
         go : (q b y : ℕ) → b < 2 → r ≡ 2 * q + b → (y ≡ 0 → t + v ≡ 0) → (t + v ≡ 0 → y ≡ 0) → compare ((r * r + t) * u + v) ((2 * q + 1) * (2 * q + 1) * u) ≡ sideOfHalf b y
         go q zero y l e a g =
             let o = sq-odd q in
-            let c : r * r ≡ 4 * (q * q) = ap (λ (x : ℕ). x * x) (e ∙ add-zero (2 * q)) ∙ four q in
+            let c : r * r ≡ 4 * (q * q) = ap (λ (x : ℕ). x * x) (e ∙ add-zero (2 * q)) ∙ sq-even q in
             let d : r * r + t < (2 * q + 1) * (2 * q + 1) = omega arith in
             cmp-lt ((r * r + t) * u + v) ((2 * q + 1) * (2 * q + 1) * u) (digits-lt d below)
         go q (suc zero) zero l e a g =

@@ -10,11 +10,14 @@ absOf (inf s) = inf false
 absOf (fin s m e) = fin false m e
 
 -- Document 01: 'minimum and maximum keep the first unless the second is strictly better or the first is NaN'
+abbrev pub keepFirst : Bool → Float → Float → Float
+keepFirst better x y = cond (isNan x || better) y x
+
 unfoldable pub minOf : Float → Float → Float
-minOf x y = cond (isNan x || lt y x) y x
+minOf x y = keepFirst (lt y x) x y
 
 unfoldable pub maxOf : Float → Float → Float
-maxOf x y = cond (isNan x || lt x y) y x
+maxOf x y = keepFirst (lt x y) x y
 
 -- Document 01: 'the signum of a number is 1 or −1 by its sign bit, zeros included'. A NaN is no number and stays one
 unfoldable pub signumOf : Float → Float
