@@ -1,10 +1,10 @@
 -- A float cut to an unsigned number of w bits, by its tests against 2 ^ w and -1. For any width. Assumes nothing.
-use mathlib.Core.Path.{_≡_, refl, sym, ap, _∙_, subst}
+use mathlib.Core.Path.{_≡_, refl, sym, _∙_, subst}
 use mathlib.Core.Bool.{Bool, true, false, _||_, _&&_, true≢false, false≢true}
-use Prim.Native.Nat.{ℕ, suc, _+_, _*_, _-_, _/_, _^_, _<_, _≤_, min}
+use Prim.Native.Nat.{ℕ, _+_, _*_, _-_, _/_, _^_, _<_, _≤_, min}
 use native.Mathlib.Nat.{le-of-lt, le-trans, le-div-iff-mul-le, div-lt-iff-lt-mul, min-eq-left, min-eq-right, zero-min, mul-one, one-mul, mul-pos, lt-of-lt-of-le}
 use native.Mathlib.Omega.{arith}
-use lib.IntN.{ℤ, pos, negsuc}
+use lib.IntN.{ℤ, pos}
 use lib.Dec.{T, ltb, eqb}
 use lib.Pow.{pow-pos, pow-mono, ones-lt, le-ones}
 use lib.Ieee.{Float, nan, inf, fin, lt, le, eq, up, down, toUnsigned}

@@ -1,8 +1,8 @@
 -- What the fields of a bit pattern stand for. Over the width. Assumes nothing.
 use mathlib.Core.Path.{_≡_, refl, sym, ap, _∙_, subst}
-use mathlib.Core.Logic.{_⊎_, inl, inr}
+use mathlib.Core.Logic.{inl, inr}
 use mathlib.Core.Bool.{Bool, true, false, not, cond}
-use Prim.Native.Nat.{ℕ, zero, suc, _+_, _-_, _*_, _/_, _%_, _^_, _≤_, _<_}
+use Prim.Native.Nat.{ℕ, suc, _+_, _-_, _*_, _/_, _%_, _^_, _<_}
 use native.Mathlib.Nat.{mod-lt, add-zero, add-comm, mul-comm, div-lt-iff-lt-mul}
 use native.Mathlib.Omega.{arith}
 use lib.Dec.{T, leb, eqb, eqb→eq, eqb-refl, lit<}
@@ -19,7 +19,8 @@ unfolding ofFields
 no-field f s t = odd-sign (prec f) s t 0 (low f)
 
 -- an exponent's field of all ones is an infinity or a NaN
-some-field : (f : Format) (s : Bool) (x t : ℕ) → T (finite (ofFields f s (suc x) t)) → HasValue (ofFields f s (suc x) t) s ((hid f + t) * 2 ^ x) (2 ^ low f) × (suc x ≡ ones f → ⊥)
+some-field : (f : Format) (s : Bool) (x t : ℕ) → T (finite (ofFields f s (suc x) t))
+    → HasValue (ofFields f s (suc x) t) s ((hid f + t) * 2 ^ x) (2 ^ low f) × (suc x ≡ ones f → ⊥)
 unfolding ofFields
 some-field f s x t h = go (eqb (suc x) (ones f)) h (eqb→eq (suc x) (ones f)) (eq→T (suc x) (ones f))
   where

@@ -1,9 +1,10 @@
 -- What the proofs of `round_root`, `align`, `root_parts`, `root32`, `root64`, `sqrt` and `sqrt64` cite. Over the width. Assumes nothing.
-use mathlib.Core.Path.{_≡_, refl, sym, ap, _∙_, subst}
-use mathlib.Core.Logic.{_⊎_, inl, inr}
+use mathlib.Core.Path.{_≡_, refl, sym, ap, ap₂, _∙_, subst}
+use mathlib.Core.Logic.{inl, inr}
 use mathlib.Core.Bool.{Bool, true, false}
 use Prim.Native.Nat.{ℕ, zero, suc, _+_, _-_, _*_, _/_, _%_, _^_, _≤_, _<_}
-use native.Mathlib.Nat.{le-trans, le-of-eq, lt-of-lt-of-le, lt-of-le-of-lt, not-le-of-lt, mul-assoc, mul-pos, mul-div-cancel, add-zero, mul-le-mul-right, zero-lt-suc, eq-of-mul-eq-mul-right, pow-suc}
+use native.Mathlib.Nat.{le-trans, le-of-eq, lt-of-lt-of-le, lt-of-le-of-lt, not-le-of-lt, mul-assoc, mul-pos, mul-div-cancel, mul-le-mul-right, zero-lt-suc}
+use native.Mathlib.Nat.{eq-of-mul-eq-mul-right, pow-suc}
 use native.Mathlib.Numerals.{add-one}
 use native.Mathlib.Omega.{arith}
 use borrow.Author.Tests.{ltb-true}
@@ -70,14 +71,13 @@ module _ {f : Format} {x : Float} {s : Bool} {d e : ℕ} (a : Unpacked f x s d e
       go (fin t m g) v = v .1
 
   pub digits-pos : 0 < d
-  digits-pos = first-pos d (2 ^ e) (first-pos (d * 2 ^ e) (den x) (subst (λ (z : ℕ). 0 < z) cross (mul-pos (value-pos x (num x) (den x) p (den-pos x) (own-value x p)) (pow-pos (low f)))))
+  digits-pos =
+      let n : 0 < num x = value-pos x (num x) (den x) p (den-pos x) (own-value x p) in
+      first-pos d (2 ^ e) (first-pos (d * 2 ^ e) (den x) (subst (λ (z : ℕ). 0 < z) cross (mul-pos n (pow-pos (low f)))))
 
   root-at : (k r t : ℕ) → d * 2 ^ e * 2 ^ low f * 4 ≡ (r * r + t) * (2 ^ k * 2 ^ k) → t ≤ 2 * r → 2 ^ prec f ≤ r → r < 2 ^ suc (prec f)
       → units f false (roundedHalf r t) k ≡ sqrtOf f x
-  root-at k r t exact rest lo hi =
-      sym (root-positive f x p
-      ∙ root-by f (num x) (den x) k r t 0 t (den-pos x) (same ∙ sym (add-zero _)) (mul-pos (den-pos x) (mul-pos (pow-pos k) (pow-pos k)))
-      (λ z. add-zero t ∙ z) (λ z. sym (add-zero t) ∙ z) rest lo hi)
+  root-at k r t exact rest lo hi = sym (root-positive f x p ∙ root-by f (num x) (den x) k r t (den-pos x) same rest lo hi)
     where
       same : num x * (2 ^ low f * 2 ^ low f) * 4 ≡ (r * r + t) * (den x * (2 ^ k * 2 ^ k))
       same = omega (arith, ap (λ (z : ℕ). z * 2 ^ low f) cross, ap (λ (z : ℕ). z * den x) exact)
@@ -85,8 +85,9 @@ module _ {f : Format} {x : Float} {s : Bool} {d e : ℕ} (a : Unpacked f x s d e
   -- what `root32` and `root64` return
   pub root-of : {bias q k : ℕ} → bias + 2 * prec f ≡ low f + 64 → RootParts d e (prec f) bias q k → units f false q k ≡ sqrtOf f x
   root-of {bias} {q} {k} b o =
+      let short : o .root < 2 ^ suc (prec f) = subst (λ (z : ℕ). o .root < 2 ^ z) (add-one (prec f)) (o .short) in
       ap (λ (z : ℕ). units f false z k) (o .kept)
-      ∙ root-at k (o .root) (o .rest) (exact (o .root * o .root + o .rest) (o .square)) (o .left) (o .high) (subst (λ (z : ℕ). o .root < 2 ^ z) (add-one (prec f)) (o .short))
+      ∙ root-at k (o .root) (o .rest) (exact (o .root * o .root + o .rest) (o .square)) (o .left) (o .high) short
     where
       exact : (w : ℕ) → w * 2 ^ 64 * (2 ^ k * 2 ^ k) ≡ d * 2 ^ (e + bias + 2 * prec f + 2) → d * 2 ^ e * 2 ^ low f * 4 ≡ w * (2 ^ k * 2 ^ k)
       exact w h =
@@ -156,6 +157,9 @@ four-is (suc n) = pow-suc 4 n ∙ ap (λ (z : ℕ). z * 4) (four-is n) ∙ regro
     regroup : (a : ℕ) → a * a * 4 ≡ a * 2 * (a * 2)
     regroup a = omega arith
 
+powers : (y k : ℕ) → 2 ^ y * (2 ^ k * 2 ^ k) ≡ 2 ^ (y + (k + k))
+powers y k = ap (λ (z : ℕ). 2 ^ y * z) (sym (pow-add 2 k k)) ∙ sym (pow-add 2 y (k + k))
+
 module _ (e p bias : ℕ) {d a y r t : ℕ} (al : AlignedBy d (e + bias) a y) (ro : RootDigits a (p + 1) r t) (small : d < 2 ^ p) where
   far : 64 ≤ y + 2 * (p + 1)
   far =
@@ -173,18 +177,24 @@ module _ (e p bias : ℕ) {d a y r t : ℕ} (al : AlignedBy d (e + bias) a y) (r
   pairs : a * 4 ^ (p + 1) ≡ a * (4 * (h * h))
   pairs = let q = double p in ap (λ (z : ℕ). a * z) (four-is (p + 1) ∙ ap (λ (z : ℕ). z * z) q ∙ omega arith)
 
-  all-pairs : (r * r + t) * 2 ^ 64 ≡ d * 2 ^ (y + 2 * (p + 1))
+  -- a's pairs, in all
+  abbrev z : ℕ
+  z = y + 2 * (p + 1)
+
+  in-pairs : a * 4 ^ (p + 1) ≡ d * 2 ^ z
+  in-pairs =
+      let i : y + (p + 1 + (p + 1)) ≡ z = omega arith in
+      ap₂ (λ (a b : ℕ). a * b) (al .moved) (four-is (p + 1))
+      ∙ mul-assoc d (2 ^ y) (2 ^ (p + 1) * 2 ^ (p + 1))
+      ∙ ap (λ (x : ℕ). d * x) (powers y (p + 1) ∙ ap (λ (x : ℕ). 2 ^ x) i)
+
+  all-pairs : (r * r + t) * 2 ^ 64 ≡ d * 2 ^ z
   all-pairs =
       let f = far in
-      let j : y + 2 * (p + 1) - 64 + 64 ≡ y + 2 * (p + 1) = omega arith in
-      let w = d * 2 ^ (y + 2 * (p + 1) - 64) in
-      let l : a * 4 ^ (p + 1) ≡ d * 2 ^ (y + 2 * (p + 1)) =
-      ap (λ (z : ℕ). z * 4 ^ (p + 1)) (al .moved)
-      ∙ mul-assoc d (2 ^ y) (4 ^ (p + 1))
-      ∙ ap (λ (z : ℕ). d * z) (ap (λ (z : ℕ). 2 ^ y * z) (four-is (p + 1) ∙ sym (pow-add 2 (p + 1) (p + 1))) ∙ sym (pow-add 2 y (p + 1 + (p + 1))) ∙ ap (λ (z : ℕ). 2 ^ z) (omega arith)) in
-      let m : d * 2 ^ (y + 2 * (p + 1)) ≡ w * 2 ^ 64 =
-      ap (λ (z : ℕ). d * z) (sym (ap (λ (z : ℕ). 2 ^ z) j) ∙ pow-add 2 (y + 2 * (p + 1) - 64) 64) ∙ sym (mul-assoc d (2 ^ (y + 2 * (p + 1) - 64)) (2 ^ 64)) in
-      ap (λ (z : ℕ). z * 2 ^ 64) (ro .square ∙ ap (λ (z : ℕ). z / 2 ^ 64) (l ∙ m) ∙ mul-div-cancel w (pow-pos 64)) ∙ sym m
+      let j : z ≡ z - 64 + 64 = omega arith in
+      let w = d * 2 ^ (z - 64) in
+      let m : d * 2 ^ z ≡ w * 2 ^ 64 = ap (λ (x : ℕ). d * 2 ^ x) j ∙ ap (λ (x : ℕ). d * x) (pow-add 2 (z - 64) 64) ∙ sym (mul-assoc d (2 ^ (z - 64)) (2 ^ 64)) in
+      ap (λ (x : ℕ). x * 2 ^ 64) (ro .square ∙ ap (λ (x : ℕ). x / 2 ^ 64) (in-pairs ∙ m) ∙ mul-div-cancel w (pow-pos 64)) ∙ sym m
 
   at-least : 2 ^ p ≤ r
   at-least = root-ge (2 ^ p) r t (let q = ro .square in let s = pairs in let g = mul-le-mul-right (h * h) (al .high) in omega arith) (ro .left)
@@ -194,15 +204,15 @@ module _ (e p bias : ℕ) {d a y r t : ℕ} (al : AlignedBy d (e + bias) a y) (r
       let k = (e + bias - y) / 2 in
       let u = al .under in
       let v = al .even in
-      let j : y + 2 * (p + 1) + (k + k) ≡ e + bias + 2 * p + 2 = omega arith in
+      let j : z + (k + k) ≡ e + bias + 2 * p + 2 = omega arith in
       record {
         root = r;
         rest = t;
         kept = refl;
         square =
-            ap (λ (z : ℕ). z * (2 ^ k * 2 ^ k)) all-pairs
-            ∙ mul-assoc d (2 ^ (y + 2 * (p + 1))) (2 ^ k * 2 ^ k)
-            ∙ ap (λ (z : ℕ). d * z) (ap (λ (z : ℕ). 2 ^ (y + 2 * (p + 1)) * z) (sym (pow-add 2 k k)) ∙ sym (pow-add 2 (y + 2 * (p + 1)) (k + k)) ∙ ap (λ (z : ℕ). 2 ^ z) j);
+            ap (λ (x : ℕ). x * (2 ^ k * 2 ^ k)) all-pairs
+            ∙ mul-assoc d (2 ^ z) (2 ^ k * 2 ^ k)
+            ∙ ap (λ (x : ℕ). d * x) (powers z k ∙ ap (λ (x : ℕ). 2 ^ x) j);
         left = ro .left;
         high = at-least;
         short = ro .short;

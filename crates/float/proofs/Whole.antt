@@ -2,7 +2,8 @@
 use mathlib.Core.Path.{_≡_, refl, sym, ap, ap₂, _∙_, subst}
 use mathlib.Core.Bool.{Bool, true, false, not, cond}
 use Prim.Native.Nat.{ℕ, zero, suc, _+_, _-_, _*_, _/_, _%_, _^_, _≤_, _<_}
-use native.Mathlib.Nat.{lt-of-lt-of-le, mul-assoc, mul-one, mul-right-comm, mul-div-cancel, mul-mod-left, add-zero, div-add-mod', eq-of-mul-eq-mul-right, div-eq-of-lt, mod-eq-of-lt, zero-lt-suc}
+use native.Mathlib.Nat.{lt-of-lt-of-le, mul-assoc, mul-one, mul-right-comm, mul-div-cancel, mul-mod-left, add-zero, div-add-mod', eq-of-mul-eq-mul-right}
+use native.Mathlib.Nat.{div-eq-of-lt, mod-eq-of-lt, zero-lt-suc}
 use native.Mathlib.Omega.{arith}
 use lib.Dec.{T, eqb, ltb}
 use lib.Pow.{pow-add, pow-pos, pow-mono, shl-lt}
@@ -44,12 +45,13 @@ integral-value u (fin t m e) s a c C v =
     ∙ ap (λ (b : Bool). round binary32 b (wholeDiv (unlike b u) a c) 1) (v .0)
 
 -- by a finite float's parts
-pub integral-is : {x : Float} {s : Bool} {d e : ℕ} (u : Bool) → Unpacked binary32 x s d e → integralOf u x ≡ round binary32 s (wholeDiv (unlike s u) (d * 2 ^ e) (2 ^ 149)) 1
+pub integral-is : {x : Float} {s : Bool} {d e : ℕ} (u : Bool) → Unpacked binary32 x s d e
+    → integralOf u x ≡ round binary32 s (wholeDiv (unlike s u) (d * 2 ^ e) (2 ^ 149)) 1
 integral-is {x} {s} {d} {e} u p = integral-value u x s (d * 2 ^ e) (2 ^ 149) (pow-pos 149) (p .value)
 
 -- ---- with no digit below 1 it is its own
 
-whole-exact : (t : Bool) (n c : ℕ) → 0 < c → wholeDiv t (n * c) c ≡ n
+pub whole-exact : (t : Bool) (n c : ℕ) → 0 < c → wholeDiv t (n * c) c ≡ n
 whole-exact false n c C = mul-div-cancel n C
 whole-exact true n c C = ap₂ (λ (b : Bool) (q : ℕ). cond b q (q + 1)) (eq-eqb (n * c % c) 0 (mul-mod-left n c)) (mul-div-cancel n C)
 

@@ -1,5 +1,5 @@
 -- Size, smaller, larger and sign of a float, for every value: NaN, infinities, both zeros and subnormals. Definitions only.
-use mathlib.Core.Bool.{Bool, true, false, cond, _||_}
+use mathlib.Core.Bool.{Bool, false, cond, _||_}
 use lib.Ieee.{Float, nan, inf, fin, lt, isNan}
 use Rattle.float.specs.Ops.{f1, f-1}
 
@@ -13,9 +13,11 @@ absOf (fin s m e) = fin false m e
 abbrev pub keepFirst : Bool → Float → Float → Float
 keepFirst better x y = cond (isNan x || better) y x
 
+-- the second is better where it is smaller
 unfoldable pub minOf : Float → Float → Float
 minOf x y = keepFirst (lt y x) x y
 
+-- the second is better where it is larger
 unfoldable pub maxOf : Float → Float → Float
 maxOf x y = keepFirst (lt x y) x y
 

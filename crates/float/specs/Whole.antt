@@ -15,28 +15,30 @@ stepAway true q left = cond (eqb left 0) q (q + 1)
 abbrev pub wholeDiv : Bool → ℕ → ℕ → ℕ
 wholeDiv t a b = stepAway t (a / b) (a % b)
 
--- IEEE 754's roundToIntegralTowardNegative and (`true`) roundToIntegralTowardPositive. Down a negative value's size grows, and up a positive one's.
--- The sign stays, also where the result is zero: -0.5 goes up to -0. A NaN and the infinities stay
+-- IEEE 754's roundToIntegralTowardNegative, and (`true`) roundToIntegralTowardPositive: the size grows where the value is negative and goes down, or positive
+-- and goes up. The sign stays, also where the result is zero: -0.5 goes up to -0. A NaN and the infinities stay
 unfoldable pub integralOf : Bool → Float → Float
 integralOf u nan = nan
 integralOf u (inf s) = inf s
 integralOf u (fin s m e) = round binary32 s (wholeDiv (unlike s u) (m * up e) (down e)) 1
 
--- the largest whole number that is no larger, and the smallest that is no smaller
+-- floor, IEEE 754's roundToIntegralTowardNegative: the largest whole number that is no larger (proofs/IntegralBelief.antt, `floor-below`)
 abbrev pub floorOf : Float → Float
 floorOf x = integralOf false x
 
+-- ceiling, IEEE 754's roundToIntegralTowardPositive: the smallest whole number that is no smaller (`ceil-above` there)
 abbrev pub ceilOf : Float → Float
 ceilOf x = integralOf true x
 
--- Rust's `as` from a float to an unsigned integer of 13 and of 8 bits: the fraction is cut off, what is out of range becomes the nearer end, a NaN becomes 0.
--- A mask is at most 4,096 wide, so every column of one, and the one past its last, is below 8,192, and a float from 8,192 on is past every mask
+-- IEEE 754's convertToIntegerTowardZero to 13 bits, as Rust's `as` completes it: what is out of range becomes the nearer end, a NaN 0.
+-- Document 01 has masks of up to 4,096 columns, so every column, and the one past the last, is below 8,192
 abbrev pub columnOf : Float → ℕ
 columnOf x = toUnsigned 13 x
 
+-- the same to 8 bits: Rust's `as u8`
 abbrev pub byteOf : Float → ℕ
 byteOf x = toUnsigned 8 x
 
--- Rust's `as` from a whole number to a float. Up to 2 ^ 24 it is exact
+-- IEEE 754's convertFromInt, Rust's `as f32`. Up to 2 ^ 24 it is exact (proofs/CastBelief.antt, `ofWhole-exact`)
 abbrev pub ofWhole : ℕ → Float
 ofWhole n = ofInt binary32 (pos n)

@@ -3,7 +3,7 @@
 ghost use mathlib.Core.Path.{_≡_};
 ghost use mathlib.Core.Logic.{_⊎_};
 ghost use Prim.Native.Nat.{_+_, _-_, _*_, _/_, _%_, _^_, _≤_, _<_, min as smallerOf};
-ghost use lib.Dec.{T, leb};
+ghost use lib.Dec.{T};
 ghost use mathlib.Core.Bool.{true, false};
 ghost use lib.Ieee.{inf, binary32, binary64, units, round};
 ghost use lib.Ieee.Nearest.{closest};

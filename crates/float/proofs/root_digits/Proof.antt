@@ -1,7 +1,6 @@
 -- `float::root_digits` meets its contract: proofs/RootLoop.antt has the invariant and shows that a turn keeps it. Assumes nothing.
-use Prim.Native.Nat.{ℕ, _+_, _*_, _/_, _^_, _-_, _≤_, _<_}
+use Prim.Native.Nat.{ℕ, _*_, _/_, _^_, _-_, _≤_, _<_}
 use Rattle.float.proofs.RootLoop.{Digits, start, pair-lt, root-fits, step-one, step-zero}
-use Rattle.float.specs.Parts.{RootDigits}
 use mathlib.Core.Logic.{⊎-elim}
 use mathlib.Core.Path.{_≡_, ap, _∙_, subst}
 use native.Mathlib.Nat.{le-antisymm}

@@ -33,8 +33,9 @@ returns : tie.Need-returns
 returns c =
     let a = c .before .before .before .before .args in
     let p = c .before .before .before .before .pre in
-    rw (c .before .round-root .ensures)
-    (root-parts (a .e) (a .keep) (a .bias) (c .before .before .before .align .ensures) (c .before .before .root-digits .ensures) (p .1 .0) (p .1 .1 .1 .1 .0) (p .1 .1 .1 .0) (p .1 .1 .1 .1 .1))
+    let al = c .before .before .before .align .ensures in
+    let ro = c .before .before .root-digits .ensures in
+    rw (c .before .round-root .ensures) (root-parts (a .e) (a .keep) (a .bias) al ro (p .1 .0) (p .1 .1 .1 .1 .0) (p .1 .1 .1 .0) (p .1 .1 .1 .1 .1))
 
 pub root-parts-spec : {M : Type 1} → statement M
 root-parts-spec =

@@ -1,7 +1,6 @@
 -- `float::split_bits` meets its contract: the two cases of the exponent's field. Assumes nothing.
-use Prim.Native.Nat.{ℕ, _-_, _%_, _/_, _+_}
-use mathlib.Core.Path.{refl, sym, ap, _∙_}
-use mathlib.Core.Bool.{Bool, cond}
+use Prim.Native.Nat.{ℕ, _-_}
+use mathlib.Core.Path.{refl, sym, ap}
 use native.Mathlib.Nat.{add-zero, mod-lt}
 use native.Mathlib.Omega.{arith}
 use borrow.Author.Tests.{eq-eqb, ne-eqb}

@@ -1,6 +1,5 @@
 -- `float::to_byte` meets its contract: a byte is a column held at 255. Assumes nothing.
 use Rattle.float.proofs.Cast.{cut-narrower}
-use mathlib.Core.Path.{sym, _∙_}
 use native.Mathlib.Omega.{arith}
 use borrow.Author.Needs.{needs}
 use Rattle.float.proofs.to_byte.Statement.{statement}
