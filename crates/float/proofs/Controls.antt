@@ -1,4 +1,4 @@
--- Closed cases of the definitions in specs/, which antt computes, with the answers of rustc 1.95. Assumes nothing.
+-- Closed cases of the definitions in specs/, computed, with Rust's answers. Assumes nothing.
 use mathlib.Core.Path.{_≡_, refl}
 use mathlib.Core.List.{List, [], _∷_}
 use mathlib.Core.Bool.{Bool, true, _&&_}

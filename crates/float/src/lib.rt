@@ -252,7 +252,7 @@ pub fn narrow(x: f64) -> f32
 
 // ---- square roots
 
-// A whole root, and what its square lacks.
+// A whole root, and what its square lacks of the number.
 struct Root {
     root: u64,
     rest: u64,
@@ -317,8 +317,8 @@ fn align(d: u64, e: u64) -> Aligned
     }
 }
 
-// The root of d * 2 ^ e of a format's smallest values, to `keep` digits. The bias, by the format,
-// turns e into the exponent of a square.
+// The root of d * 2 ^ e of a format's smallest values, to the `keep` digits of the format. The bias
+// is low + 64 - 2 * keep where the smallest value is 2 ^ -low: e in steps of a root's unit.
 fn root_parts(d: u64, e: u64, keep: u64, bias: u64) -> Parts
     requires { ⌜ 0 < d ⌝ }
     requires { ⌜ d < 2 ^ keep ⌝ }
@@ -431,7 +431,7 @@ pub fn to_byte(x: f32) -> u8
     255
 }
 
-// The quotient q with something left over, or nothing, as a whole number: q, or the next one.
+// A quotient of which `left` is left over, as a whole number: q, or `away` from zero the next one.
 fn step_away(q: u64, left: u64, away: bool) -> u64
     requires { ⌜ q < 2 ^ 24 ⌝ }
     ensures { λ r. ⌜ r ≡ stepAway away q left ⌝ }
