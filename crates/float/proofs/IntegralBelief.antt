@@ -18,6 +18,7 @@ use Rattle.fraction.specs.Fraction.{Fraction, _≤ᶠ_, _<ᶠ_, _≈ᶠ_, whole
 use Rattle.fraction.proofs.Linear.{at-eq, at-lt, lt-at, add-at, over, trans}
 use Rattle.fraction.proofs.Order.{of-eq, sym≈}
 use Rattle.rounding.specs.Value.{signed, signedᶠ, val}
+use Rattle.rounding.specs.Rounding.{Is}
 use Rattle.rounding.proofs.Base.{value-is, fits-parts, own-rounding}
 use Rattle.float.specs.Whole.{wholeDiv, integralOf, floorOf, ceilOf}
 use Rattle.float.proofs.Whole.{whole-exact, step-le}
@@ -70,24 +71,25 @@ exact t s m (negsuc k) h = round-whole binary32 s _ (le-trans (step-le t (m * 1 
     below zero h = omega (arith, div-le-self (0 * 1) (2 ^ suc k))
     below (suc m) h = let p = fits-parts binary32 s m (negsuc k) h .0 in omega (arith, div-le-self (suc m * 1) (2 ^ suc k))
 
--- ONE LAW for both directions: a whole number, at x or less than 1 away on the side of the direction
+-- ONE LAW for both directions: finite and a whole number, at x or less than 1 away on the side of the direction
 pub integral-beside : (u : Bool) (x : Float) → T (finite x) → T (fits binary32 x)
-    → (n : Whole) × (val (integralOf u x) ≈ᶠ wholeᶠ n) × Beside u (val x) (val (integralOf u x))
+    → (n : Whole) × Is (wholeᶠ n) (integralOf u x) × Beside u (val x) (val (integralOf u x))
 unfolding integralOf val
 integral-beside u nan p h = absurd p
 integral-beside u (inf s) p h = absurd p
 integral-beside u (fin s m e) p h =
     let a = m * up e in
     let w = wholeDiv (unlike s u) a (down e) in
-    let v = value-is (round binary32 s w 1) s w 1 (zero-lt-suc 0) (exact (unlike s u) s m e h) .1 in
-    (signed s w, v, beside-same u (signedᶠ s a (down e) (down-pos e)) (sym≈ v) (beside u s w a (down e) (down-pos e) (whole-cut (unlike s u) a (down e) (down-pos e))))
+    let v = value-is (round binary32 s w 1) s w 1 (zero-lt-suc 0) (exact (unlike s u) s m e h) in
+    let c = whole-cut (unlike s u) a (down e) (down-pos e) in
+    (signed s w, record { fine = v .0; eq = v .1 }, beside-same u (signedᶠ s a (down e) (down-pos e)) (sym≈ (v .1)) (beside u s w a (down e) (down-pos e) c))
 
 -- floor: the largest whole number that is no larger
 pub floor-below : (x : Float) → T (finite x) → T (fits binary32 x)
-    → (n : Whole) × (val (floorOf x) ≈ᶠ wholeᶠ n) × (val (floorOf x) ≤ᶠ val x) × (val x <ᶠ val (floorOf x) +ᶠ natᶠ 1)
+    → (n : Whole) × Is (wholeᶠ n) (floorOf x) × (val (floorOf x) ≤ᶠ val x) × (val x <ᶠ val (floorOf x) +ᶠ natᶠ 1)
 floor-below x p h = let i = integral-beside false x p h in (i .0, i .1, i .2 .0, i .2 .1)
 
 -- ceiling: the smallest whole number that is no smaller
 pub ceil-above : (x : Float) → T (finite x) → T (fits binary32 x)
-    → (n : Whole) × (val (ceilOf x) ≈ᶠ wholeᶠ n) × (val x ≤ᶠ val (ceilOf x)) × (val (ceilOf x) <ᶠ val x +ᶠ natᶠ 1)
+    → (n : Whole) × Is (wholeᶠ n) (ceilOf x) × (val x ≤ᶠ val (ceilOf x)) × (val (ceilOf x) <ᶠ val x +ᶠ natᶠ 1)
 ceil-above x p h = let i = integral-beside true x p h in (i .0, i .1, i .2 .0, i .2 .1)

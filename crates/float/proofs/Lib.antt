@@ -4,7 +4,7 @@
 -- What the definitions of specs/ mean, in exact numbers:
 --
 --   `floor-below`, `ceil-above` (IntegralBelief)   the whole number at x or less than 1 away, on the lower and on the upper side
---   `sqrt-nearest` (RootBelief)                    the format's value nearest to the root, ties to even; `wholeRoot-largest`: the largest whole root
+--   `sqrt-nearest`, `sqrt-finite` (RootBelief)     the format's value nearest to the root, ties to even, and no infinity; `wholeRoot-largest`: the largest whole root
 --   `narrow-rounds` (NarrowBelief)                 one rounding to binary32, of which crates/rounding says how near it is
 --   `ofWhole-exact` (CastBelief)                   a whole number up to 2 ^ 24 as a float is that number
 --   `column-below`, `byte-below` (CastBelief)      a float in range is cut to the whole number at it or less than 1 below

@@ -6,13 +6,17 @@ use mathlib.Core.Logic.{_⊎_, inl, inr}
 use mathlib.Core.Bool.{false}
 use Prim.Native.Nat.{ℕ, zero, suc, _+_, _-_, _*_, _/_, _%_, _^_, _≤_, _<_, compare, Ordering}
 use native.Mathlib.Nat.{le-trans, le-of-eq, le-of-lt, lt-irrefl, lt-of-lt-of-le, lt-of-le-of-lt, eq-or-lt-of-le, eq-zero-or-pos, mul-le-mul-right}
-use native.Mathlib.Nat.{mul-lt-mul-of-pos-right, mul-pos, div-lt-iff-lt-mul, le-div-iff-mul-le}
+use native.Mathlib.Nat.{mul-lt-mul-of-pos-right, mul-pos, mul-comm, pow-succ', lt-of-mul-lt-mul-right, div-lt-iff-lt-mul, le-div-iff-mul-le}
 use native.Mathlib.Omega.{arith}
+use lib.Dec.{T, lit≤}
 use lib.IntN.{ℤ}
-use lib.Pow.{pow-pos, pow-mono}
-use lib.Ieee.{Float, fin, Format, prec, low, hid, up, down, size, nearest, units}
+use lib.Pow.{pow-add, pow-pos, pow-mono}
+use lib.Ieee.{Float, fin, Format, binary32, binary64, prec, emax, low, hid, up, down, size, nearest, units, fits}
 use lib.Ieee.Digits.{size-lt, size-reaches}
+use lib.Ieee.Exact.{units-val}
 use lib.Ieee.Fits.{down-pos}
+use lib.Ieee.Scale.{finite}
+use Rattle.rounding.proofs.Base.{value-is, fits-parts}
 use Rattle.float.specs.Root.{wholeRoot, roundRoot, sqrtOf}
 use Rattle.float.proofs.Pattern.{split, prec-pos}
 use Rattle.float.proofs.Shift.{cmp-lt, cmp-eq, cmp-gt}
@@ -167,3 +171,34 @@ module _ (f : Format) (num den : ℕ) (D : 0 < den) where
 pub sqrt-nearest : (f : Format) (m : ℕ) (e : ℤ) → RootOf f (suc m * up e) (down e) (sqrtOf f (fin false (suc m) e))
 unfolding sqrtOf
 sqrt-nearest f m e = roundRoot-nearest f (suc m * up e) (down e) (down-pos e)
+
+-- and it is finite: with H * H the end of the format's range, the root is below H, far inside it
+half-range : (f : Format) → (h : ℕ) × (2 ^ suc (emax f) ≡ 2 ^ h * 2 ^ h) × (suc h ≤ suc (emax f))
+half-range binary32 = (64, refl, lit≤ tt)
+half-range binary64 = (512, refl, lit≤ tt)
+
+in-range : (p K den num L H : ℕ) → 0 < L → p * p * (den * (K * K)) ≤ num * (L * L) * 4 → num < H * H * den → p * K < 2 * H * L
+in-range p K den num L H l a b =
+    root-lt (p * K) (2 * H * L) (lt-of-mul-lt-mul-right den (omega (arith, a, mul-lt-mul-of-pos-right b (mul-pos l l))))
+
+pub sqrt-finite : (f : Format) (m : ℕ) (e : ℤ) → T (fits f (fin false (suc m) e)) → T (finite (sqrtOf f (fin false (suc m) e)))
+sqrt-finite f m e t =
+    let r = sqrt-nearest f m e in
+    let q = r .q in
+    let k = r .k in
+    let h = half-range f in
+    let l = low f in
+    let b = lt-of-lt-of-le (fits-parts f false m e t .2) (le-of-eq (ap (λ (x : ℕ). x * down e) (h .1))) in
+    let a = in-range (2 * q - 1) (2 ^ k) (down e) (suc m * up e) (2 ^ l) (2 ^ h .0) (pow-pos l) (r .root .low-end) b in
+    let g = end (h .0) l (h .2) in
+    let v = value-is (units f false q k) false (q * 2 ^ k) (2 ^ l) (pow-pos l) (units-val f false q k (under-range q k a g)) in
+    subst (λ (x : Float). T (finite x)) (sym (r .is)) (v .0)
+  where
+    end : (h l : ℕ) {E : ℕ} → suc h ≤ E → 2 * 2 ^ h * 2 ^ l ≤ 2 ^ (l + E)
+    end h l {E} g =
+        let j : l + suc h ≤ l + E = omega arith in
+        le-trans (le-of-eq (ap (λ (x : ℕ). x * 2 ^ l) (sym (pow-succ' 2 h)) ∙ mul-comm (2 ^ suc h) (2 ^ l) ∙ sym (pow-add 2 l (suc h)))) (pow-mono j)
+
+    under-range : (q k : ℕ) {H E : ℕ} → (2 * q - 1) * 2 ^ k < H → H ≤ E → q * 2 ^ k < E
+    under-range zero k a g = omega arith
+    under-range (suc q) k a g = lt-of-le-of-lt (mul-le-mul-right (2 ^ k) (omega arith)) (lt-of-lt-of-le a g)

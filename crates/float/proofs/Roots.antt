@@ -11,7 +11,7 @@ use lib.Ieee.{Float, Format, prec, low, size, units, nearest}
 use lib.Ieee.Digits.{size-le, size-lt}
 use Rattle.float.specs.Root.{rootDigit, rootBelow, wholeRoot, roundRoot}
 use Rattle.float.specs.Parts.{sideOfHalf, roundedHalf}
-use Rattle.float.proofs.Pattern.{size-gt, prec-pos}
+use Rattle.float.proofs.Pattern.{size-gt, prec-pos, half-of}
 use Rattle.float.proofs.Shift.{cmp-lt, cmp-eq, cmp-gt}
 
 -- ---- squares
@@ -137,8 +137,7 @@ module _ (f : Format) (num den k r t : ℕ) (D : 0 < den) where
     least : 2 ^ (prec f - 1 + k) * 2 ^ (prec f - 1 + k) ≤ n / den
     least =
         let h = 2 ^ (prec f - 1) in
-        let e : suc (prec f - 1) ≡ prec f = (let p = prec-pos f in omega arith) in
-        let d : 2 * h ≤ r = le-trans (le-of-eq (sym (pow-succ' 2 (prec f - 1)) ∙ ap (λ (x : ℕ). 2 ^ x) e)) lo in
+        let d : 2 * h ≤ r = le-trans (le-of-eq (sym (half-of (prec f) (prec-pos f)))) lo in
         let g : h * h * u ≤ n = quarter h n u exact (sq-mono d) in
         le-div-iff-mul-le D .1 (le-trans (le-of-eq (in-steps (prec f - 1) k den)) g)
       where
