@@ -1,0 +1,249 @@
+//! Document 01's calls, over femtovg. A box is ten floats (frame, half extents, radii), a coverage
+//! eleven (linear part by rows, offset, half extents, radii, strays).
+use crate::{
+    clip::{
+        coverage::{self, Coverage},
+        mask::MaskKey,
+        shape::{ClipCoverage, RoundedBox},
+    },
+    geometry::Transform2D,
+    path::Solidity,
+    Path,
+};
+
+pub type Box10 = [f32; 10];
+pub type Frame = [f32; 6];
+pub type Coverage11 = [f32; 11];
+
+/// A number of document 01's table.
+pub type Refused = u8;
+
+const NUMBER: Refused = 1;
+const SHAPE: Refused = 2;
+const MASK_TOO_LARGE: Refused = 3;
+const TOO_SHORT: Refused = 4;
+const LIST_ENDS: Refused = 5;
+const COUNT: Refused = 6;
+const COORDINATE: Refused = 7;
+const VERB: Refused = 8;
+const POSITIONS: Refused = 9;
+const CURVE: Refused = 10;
+const VERBS: Refused = 11;
+
+const LARGEST: f32 = 1_048_576.0;
+
+fn check(number: f32) -> Result<(), Refused> {
+    if number.is_finite() && number.abs() <= LARGEST {
+        Ok(())
+    } else {
+        Err(NUMBER)
+    }
+}
+
+fn check_all(numbers: &[f32]) -> Result<(), Refused> {
+    numbers.iter().try_for_each(|x| check(*x))
+}
+
+fn check_box(b: &Box10) -> Result<(), Refused> {
+    check_all(b)?;
+    let [.., width, height, rx, ry] = *b;
+    if width < 0.0 || height < 0.0 || rx < 0.0 || ry < 0.0 || rx > width || ry > height {
+        return Err(SHAPE);
+    }
+    Ok(())
+}
+
+fn boxed([a, b, c, d, x, y, width, height, rx, ry]: Box10) -> RoundedBox {
+    RoundedBox {
+        frame: Transform2D([a, b, c, d, x, y]),
+        extent: [width, height],
+        radii: [rx, ry],
+    }
+}
+
+fn floats(shape: RoundedBox) -> Box10 {
+    let Transform2D([a, b, c, d, x, y]) = shape.frame;
+    [a, b, c, d, x, y, shape.extent[0], shape.extent[1], shape.radii[0], shape.radii[1]]
+}
+
+fn covering(c: &Coverage11) -> ClipCoverage {
+    ClipCoverage {
+        linear: [c[0], c[1], c[2], c[3]],
+        offset: [c[4], c[5]],
+        extent: [c[6], c[7]],
+        radii: [c[8], c[9]],
+        strays: c[10],
+    }
+}
+
+// ---- masks
+
+/// The points of a word list, or the number of the first word at fault.
+fn check_list(words: &[i32]) -> Result<usize, Refused> {
+    let mut words = words.iter().copied();
+    let mut points = 0;
+    while words.next().is_some() {
+        let contours = words.next().ok_or(LIST_ENDS)?;
+        if contours < 0 {
+            return Err(COUNT);
+        }
+        for _ in 0..contours {
+            let count = words.next().ok_or(LIST_ENDS)?;
+            if count < 0 || points + count as usize > 2048 {
+                return Err(COUNT);
+            }
+            for _ in 0..2 * count {
+                if !(-1_048_576..=1_048_576).contains(&words.next().ok_or(LIST_ENDS)?) {
+                    return Err(COORDINATE);
+                }
+            }
+            points += count as usize;
+        }
+    }
+    Ok(points)
+}
+
+/// femtovg's drawing, with what it keeps from one to the next.
+#[derive(Default)]
+pub struct Drawing {
+    coverage: Coverage,
+    mask: Vec<u8>,
+}
+
+impl Drawing {
+    /// The answer to a drawing, before anything is drawn. `lent` is how many mask bytes, scratch
+    /// floats and scratch counters there are.
+    pub fn check(size: [usize; 2], words: &[i32], lent: [usize; 3]) -> Result<(), Refused> {
+        let [width, height] = size;
+        if width > 4096 || height > 4096 {
+            return Err(MASK_TOO_LARGE);
+        }
+        if lent[0] < width * height {
+            return Err(TOO_SHORT);
+        }
+        let points = check_list(words)?;
+        if lent[1] < width + 15 * points || lent[2] < (width + 63) / 64 + height + 1 {
+            return Err(TOO_SHORT);
+        }
+        Ok(())
+    }
+
+    /// The cells of a drawing that is not refused. At width or height 0 there are none (at height 0
+    /// femtovg may stop: docs/DIFFERENCES.md).
+    pub fn cells(&mut self, size: [usize; 2], words: Vec<i32>) -> &[u8] {
+        let [width, height] = size;
+        if width * height == 0 {
+            return &[];
+        }
+        MaskKey::of([width as u32, height as u32], words).rasterize_into(&mut self.coverage, &mut self.mask);
+        &self.mask
+    }
+}
+
+/// Lays the other mask on a mask.
+pub fn lay(mask: &mut [u8], size: [usize; 2], other: &[u8], other_size: [usize; 2], offset: [i32; 2]) -> Result<(), Refused> {
+    if size.iter().chain(&other_size).any(|side| *side > 4096) {
+        return Err(MASK_TOO_LARGE);
+    }
+    let cells = size[0] * size[1];
+    if mask.len() < cells || other.len() < other_size[0] * other_size[1] {
+        return Err(TOO_SHORT);
+    }
+    if cells > 0 {
+        coverage::intersect(&mut mask[..cells], size, other, other_size, offset);
+    }
+    Ok(())
+}
+
+// ---- boxes
+
+fn check_outline(verbs: &[u8], positions: &[f32]) -> Result<(), Refused> {
+    if verbs.len() > 256 {
+        return Err(VERBS);
+    }
+    let mut needed = 0;
+    for verb in verbs {
+        needed += match verb {
+            0 | 1 => 2,
+            2 => return Err(CURVE),
+            3..=5 => 0,
+            _ => return Err(VERB),
+        };
+    }
+    if needed != positions.len() {
+        return Err(POSITIONS);
+    }
+    check_all(positions)
+}
+
+pub fn fit(verbs: &[u8], positions: &[f32]) -> Result<Option<Box10>, Refused> {
+    check_outline(verbs, positions)?;
+    let mut path = Path::new();
+    let mut positions = positions.chunks_exact(2);
+    for verb in verbs {
+        match verb {
+            0 | 1 => {
+                let at = positions.next().expect("checked");
+                if *verb == 0 {
+                    path.move_to(at[0], at[1]);
+                } else {
+                    path.line_to(at[0], at[1]);
+                }
+            }
+            3 => path.solidity(Solidity::Solid),
+            4 => path.solidity(Solidity::Hole),
+            _ => path.close(),
+        }
+    }
+    Ok(RoundedBox::fit(&path).map(floats))
+}
+
+pub fn transformed(b: Box10, frame: Frame) -> Result<Box10, Refused> {
+    check_box(&b)?;
+    check_all(&frame)?;
+    Ok(floats(boxed(b).transformed(&Transform2D(frame))))
+}
+
+pub fn coverage(b: Box10, fringe: f32) -> Result<Option<Coverage11>, Refused> {
+    check_box(&b)?;
+    check(fringe)?;
+    Ok(boxed(b).coverage(fringe).map(|c| {
+        let [a, b, d, e] = c.linear;
+        [a, b, d, e, c.offset[0], c.offset[1], c.extent[0], c.extent[1], c.radii[0], c.radii[1], c.strays]
+    }))
+}
+
+pub fn intersection(one: Box10, two: Box10, fringe: f32) -> Result<Option<Box10>, Refused> {
+    check_box(&one)?;
+    check_box(&two)?;
+    check(fringe)?;
+    Ok(boxed(one).intersection(&boxed(two), fringe).map(floats))
+}
+
+pub fn rect_intersection(one: Box10, two: Box10) -> Result<Option<Box10>, Refused> {
+    check_box(&one)?;
+    check_box(&two)?;
+    Ok(boxed(one).rect_intersection(&boxed(two)).map(floats))
+}
+
+pub fn parallel(one: Box10, two: Box10) -> Result<bool, Refused> {
+    check_box(&one)?;
+    check_box(&two)?;
+    Ok(boxed(one).parallel(&boxed(two)))
+}
+
+pub fn bounds(b: Box10) -> Result<[f32; 4], Refused> {
+    check_box(&b)?;
+    let bounds = boxed(b).bounds();
+    Ok([bounds.minx, bounds.miny, bounds.maxx, bounds.maxy])
+}
+
+pub fn distance(c: Coverage11, point: [f32; 2]) -> Result<f32, Refused> {
+    check_all(&point)?;
+    Ok(covering(&c).distance(point))
+}
+
+pub fn contains(c: Coverage11, b: Box10) -> Result<bool, Refused> {
+    check_box(&b)?;
+    Ok(covering(&c).contains(&boxed(b)))
+}
