@@ -1,0 +1,2 @@
+-- Drawing: the bytes of a drawing, row by row.
+pub mod Drawing

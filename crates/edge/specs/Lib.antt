@@ -1,0 +1,2 @@
+-- Edges: the edges of contours, the active edges of a row, their pieces.
+pub mod Edges

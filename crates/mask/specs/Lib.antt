@@ -1,0 +1,2 @@
+-- Calls: the answers and what the calls leave.
+pub mod Calls
