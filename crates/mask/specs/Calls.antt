@@ -8,7 +8,7 @@ use lib.ListN.{length, drop, replicate}
 use lib.Ieee.{Float}
 use Rattle.fault.specs.declared.Fault.the-variants.{MaskTooLarge, BufferTooShort}
 use Rattle.float.specs.Ops.{f0}
-use Rattle.words.specs.Words.{Group, pointsIn, Read, ok, fault, readWords}
+use Rattle.words.specs.Words.{Group, pointsIn, Read, ok, fault, readWords, groupsOf}
 use Rattle.coverage.specs.declared.Size.{Size}
 use Rattle.coverage.specs.Drawing.{drawingOf}
 use Rattle.mask.specs.declared.Outcome.{Outcome}
@@ -48,14 +48,9 @@ drawAnswer size words lent =
 
 -- ---- what is lent, afterwards: 'Left as it was: all lent' where the call is turned away
 
--- the cells of a list that is read; a list at fault has none
-abbrev pub cellsDrawn : Size → Read (List Group) → List ℕ
-cellsDrawn size (ok gs rest) = drawingOf size gs
-cellsDrawn size (fault f) = replicate (cellsOf size) 0
-
 -- 'Bytes past width × height are not changed.'
 abbrev pub maskAfterDrawing : Outcome → Size → List ℤ → List ℕ → List ℕ
-maskAfterDrawing Done size words mask = cellsDrawn size (readWords words) ++ drop (cellsOf size) mask
+maskAfterDrawing Done size words mask = drawingOf size (groupsOf words) ++ drop (cellsOf size) mask
 maskAfterDrawing (Refused f) size words mask = mask
 
 -- 'After a done drawing all of the lent scratch is zero.'

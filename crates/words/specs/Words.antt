@@ -106,3 +106,11 @@ readGroups (suc n) before ws =
 unfoldable pub readWords : List ℤ → Read (List Group)
 unfolding readGroups
 readWords ws = readGroups (length ws) 0 ws
+
+-- the groups of a list without a fault, and none of another
+abbrev pub groupsRead : Read (List Group) → List Group
+groupsRead (ok gs rest) = gs
+groupsRead (fault f) = []
+
+abbrev pub groupsOf : List ℤ → List Group
+groupsOf ws = groupsRead (readWords ws)
