@@ -7,9 +7,9 @@ use Prim.Native.Nat.{ℕ, zero, suc, _+_, _-_, _*_, _≤_, _<_}
 use native.Mathlib.Nat.{mul-pos, mul-le-mul-right, le-of-mul-le-mul-right, lt-of-mul-lt-mul-right, mul-lt-mul-of-pos-right, eq-of-mul-eq-mul-right, zero-lt-suc, le-of-eq, le-antisymm, le-dest, add-comm}
 use native.Mathlib.Decide.{decLe}
 use native.Mathlib.Omega.{arith}
-use lib.Dec.{T, leb→le, eqb→eq}
+use lib.Dec.{T, leb→le, eqb→eq, ltb→lt}
 use Rattle.fraction.specs.Whole.{Whole, _+ʷ_, _-ʷ_, _*ʷ_, _×ℕ_, negʷ, natʷ, sizeʷ, _≤ʷ_, _<ʷ_, _≈ʷ_}
-use Rattle.fraction.specs.Fraction.{Fraction, _≤ᶠ_, _<ᶠ_, _≈ᶠ_, leᵇ, eqᵇ, _+ᶠ_, _-ᶠ_, _*ᶠ_, negᶠ, absᶠ}
+use Rattle.fraction.specs.Fraction.{Fraction, _≤ᶠ_, _<ᶠ_, _≈ᶠ_, leᵇ, ltᵇ, eqᵇ, _+ᶠ_, _-ᶠ_, _*ᶠ_, negᶠ, absᶠ}
 
 -- ---- x is z / N
 pub record At (N : ℕ) (x : Fraction) : Type 0 where
@@ -154,6 +154,9 @@ lit {x} {y} t = record { le = leb→le (x .num .plus * y .den + y .num .minus * 
 
 pub lit≈ : {x y : Fraction} → T (eqᵇ x y) → x ≈ᶠ y
 lit≈ {x} {y} t = record { eq = eqb→eq (x .num .plus * y .den + y .num .minus * x .den) (y .num .plus * x .den + x .num .minus * y .den) t }
+
+pub lit<ᶠ : {x y : Fraction} → T (ltᵇ x y) → x <ᶠ y
+lit<ᶠ {x} {y} t = record { lt = ltb→lt (x .num .plus * y .den + y .num .minus * x .den) (y .num .plus * x .den + x .num .minus * y .den) t }
 
 -- ---- the form, at two examples
 pub trans : {x y z : Fraction} → x ≤ᶠ y → y ≤ᶠ z → x ≤ᶠ z

@@ -5,7 +5,7 @@ use Prim.Native.Nat.{ℕ, zero, suc, _+_, _*_, _≤_, _<_}
 use native.Mathlib.Nat.{mul-pos}
 use native.Mathlib.Omega.{arith}
 use Rattle.fraction.specs.Whole.{Whole, _+ʷ_, _-ʷ_, _*ʷ_, _×ℕ_, negʷ, natʷ, _≤ʷ_, _≈ʷ_}
-use Rattle.fraction.specs.Fraction.{Fraction, _≤ᶠ_, _≈ᶠ_, natᶠ, _+ᶠ_, _-ᶠ_, _*ᶠ_, negᶠ, absᶠ, sumᶠ, Near, Within}
+use Rattle.fraction.specs.Fraction.{Fraction, _≤ᶠ_, _≈ᶠ_, natᶠ, _+ᶠ_, _-ᶠ_, _*ᶠ_, negᶠ, absᶠ, Near, Within}
 use Rattle.fraction.proofs.Linear.{At, at, at-le, at-eq, le-at, eq-at, add-at, sub-at, neg-at, abs-at, mul-at, self, over, trans}
 use Rattle.fraction.proofs.Order.{mono, mul-sub, sub-mul, of-eq, sym≈, zero-mul, one-more}
 
@@ -136,6 +136,13 @@ within-of-abs {x} {b} h = over (x ∷ b ∷ []) (λ N n X B. let k = at-le N (ab
     record { lo = le-at N (neg-at N B) X n (omega (arith, k)); hi = le-at N X B n (omega (arith, k)) })
 
 -- ---- sums: the errors add up, and n equal ones are n times one
+
+-- f 0 + f 1 + .. + f (n - 1)
+unfoldable pub sumᶠ : ℕ → (ℕ → Fraction) → Fraction
+unfolding _+ᶠ_
+sumᶠ zero f = natᶠ 0
+sumᶠ (suc n) f = sumᶠ n f +ᶠ f n
+
 pub near-sum : (n : ℕ) (f g e : ℕ → Fraction) → ((i : ℕ) → i < n → Near (f i) (g i) (e i)) → Near (sumᶠ n f) (sumᶠ n g) (sumᶠ n e)
 unfolding sumᶠ
 near-sum zero f g e h = near-refl (natᶠ 0)

@@ -1,9 +1,10 @@
 -- The laws of fractions: the order, products, sizes. A linear law is one line by `Linear`; a law of products is `omega` over the naturals that it comes to. Assumes nothing.
 use mathlib.Core.Path.{_≡_, refl, sym, ap}
 use mathlib.Core.List.{List, [], _∷_}
+use mathlib.Core.Logic.{_⊎_, inl, inr}
 use mathlib.Core.Bool.{Bool, true, false, not, cond}
-use Prim.Native.Nat.{ℕ, zero, suc, _+_, _-_, _*_, _≤_, _<_}
-use native.Mathlib.Nat.{le-dest, le-refl as ℕ-refl, le-of-eq, mul-le-mul-left, mul-pos}
+use Prim.Native.Nat.{ℕ, zero, suc, _+_, _-_, _*_, _≤_, _<_, max}
+use native.Mathlib.Nat.{le-dest, le-refl as ℕ-refl, le-of-eq, add-comm, mul-le-mul-left, mul-pos}
 use native.Mathlib.Decide.{decLe}
 use native.Mathlib.Omega.{arith}
 use lib.Dec.{T, ltb, leb→le, nleb→lt, ltb→lt, nltb→le}
@@ -26,6 +27,22 @@ trans≈ {x} {y} {z} h k = over (x ∷ y ∷ z ∷ []) (λ N n X Y Z. eq-at N X 
 
 pub antisym : {x y : Fraction} → x ≤ᶠ y → y ≤ᶠ x → x ≈ᶠ y
 antisym {x} {y} h k = over (x ∷ y ∷ []) (λ N n X Y. eq-at N X Y n (omega (arith, at-le N X Y h, at-le N Y X k)))
+
+pub of-lt : {x y : Fraction} → x <ᶠ y → x ≤ᶠ y
+of-lt h = record { le = omega (arith, h .lt) }
+
+pub le-or-lt : (x y : Fraction) → (x ≤ᶠ y) ⊎ (y <ᶠ x)
+le-or-lt x y = go (decLe _ _)
+  where
+    a : ℕ
+    a = x .num .plus * y .den + y .num .minus * x .den
+
+    b : ℕ
+    b = y .num .plus * x .den + x .num .minus * y .den
+
+    go : Dec (a ≤ b) → (x ≤ᶠ y) ⊎ (y <ᶠ x)
+    go (yes h) = inl (record { le = h })
+    go (no f) = inr (record { lt = omega arith })
 
 -- ---- sums
 pub add-mono : {x y z w : Fraction} → x ≤ᶠ y → z ≤ᶠ w → x +ᶠ z ≤ᶠ y +ᶠ w
@@ -85,6 +102,9 @@ nonneg p = omega (arith, p .le)
 pub mul-mono : {x y z : Fraction} → natᶠ 0 ≤ᶠ x → y ≤ᶠ z → x *ᶠ y ≤ᶠ x *ᶠ z
 mul-mono {x} {y} {z} p h = over (y ∷ z ∷ []) (λ N n Y Z. le-at (x .den * N) (times x N Y) (times x N Z) (mul-pos (x .pos) n) (mono (x .num) (Y .z) (Z .z) (nonneg p) (at-le N Y Z h)))
 
+pub mul-mono-right : {x y z : Fraction} → natᶠ 0 ≤ᶠ z → x ≤ᶠ y → x *ᶠ z ≤ᶠ y *ᶠ z
+mul-mono-right {x} {y} {z} p h = trans (of-eq (mul-comm x z)) (trans (mul-mono p h) (of-eq (mul-comm z y)))
+
 pub mul-cong : (x : Fraction) {y z : Fraction} → y ≈ᶠ z → x *ᶠ y ≈ᶠ x *ᶠ z
 mul-cong x {y} {z} h = over (y ∷ z ∷ []) (λ N n Y Z. eq-at (x .den * N) (times x N Y) (times x N Z) (mul-pos (x .pos) n) (cong (x .num) (x .num) (Y .z) (Z .z) refl (at-eq N Y Z h)))
 
@@ -103,69 +123,84 @@ pub square-nonneg : (x : Fraction) → natᶠ 0 ≤ᶠ x *ᶠ x
 unfolding _*ᶠ_
 square-nonneg x = record { le = omega (arith, square (x .num) (decLe (x .num .minus) (x .num .plus))) }
 
--- ---- 1 / y for a y above 0
-top : (a b c : ℕ) (x : Bool) → (T x → a < b) → (T (not x) → b ≤ a) → a < b → cond x c 0 ≡ c
-top a b c true g h l = refl
-top a b c false g h l = absurd (native.Mathlib.Nat.not-le-of-lt l (h tt))
+-- ---- 1 / y. Above 0 it is den / num, and below 0 the negation of 1 / -y
+chosen : (a b c : ℕ) (x : Bool) → (T (not x) → b ≤ a) → a < b → cond x c 0 ≡ c
+chosen a b c true h l = refl
+chosen a b c false h l = absurd (native.Mathlib.Nat.not-le-of-lt l (h tt))
 
-bottom : (a b c : ℕ) (x : Bool) → (T x → a < b) → b ≤ a → cond x c 0 ≡ 0
-bottom a b c true g l = absurd (native.Mathlib.Nat.not-le-of-lt (g tt) l)
-bottom a b c false g l = refl
+refused : (a b c : ℕ) (x : Bool) → (T x → a < b) → b ≤ a → cond x c 0 ≡ 0
+refused a b c true g l = absurd (native.Mathlib.Nat.not-le-of-lt (g tt) l)
+refused a b c false g l = refl
 
-pub inv-num : (y : Fraction) → natᶠ 0 <ᶠ y → ((invᶠ y) .num .plus ≡ y .den) × ((invᶠ y) .num .minus ≡ 0) × ((invᶠ y) .den + y .num .minus ≡ y .num .plus)
+inv-parts : (y : Fraction) → natᶠ 0 <ᶠ y
+    → ((invᶠ y) .num .plus ≡ y .den) × ((invᶠ y) .num .minus ≡ 0) × ((invᶠ y) .den + y .num .minus ≡ y .num .plus)
 unfolding invᶠ
-inv-num y h =
-    let l : y .num .minus < y .num .plus = omega (arith, h .lt) in (
-      top (y .num .minus) (y .num .plus) (y .den) (ltb (y .num .minus) (y .num .plus)) (ltb→lt (y .num .minus) (y .num .plus)) (nltb→le (y .num .minus) (y .num .plus)) l,
-      bottom (y .num .plus) (y .num .minus) (y .den) (ltb (y .num .plus) (y .num .minus)) (ltb→lt (y .num .plus) (y .num .minus)) (native.Mathlib.Nat.le-of-lt l),
-      omega arith,
-    )
+inv-parts y h =
+    let a = y .num .minus in
+    let b = y .num .plus in
+    let l : a < b = omega (arith, h .lt) in
+    (chosen a b (y .den) (ltb a b) (nltb→le a b) l, refused b a (y .den) (ltb b a) (ltb→lt b a) (native.Mathlib.Nat.le-of-lt l), omega arith)
 
-pub inv-mul : (y : Fraction) → natᶠ 0 <ᶠ y → invᶠ y *ᶠ y ≈ᶠ natᶠ 1
+inv-mul⁺ : (y : Fraction) → natᶠ 0 <ᶠ y → invᶠ y *ᶠ y ≈ᶠ natᶠ 1
 unfolding _*ᶠ_
-inv-mul y h =
-    let i = inv-num y h in
-    record { eq = omega (arith, ap (λ (t : ℕ). t * y .num .plus) (i .0), ap (λ (t : ℕ). t * y .num .minus) (i .0), ap (λ (t : ℕ). t * y .num .plus) (i .1), ap (λ (t : ℕ). t * y .num .minus) (i .1), ap (λ (t : ℕ). t * y .den) (i .2)) }
+inv-mul⁺ y h =
+    let i = inv-parts y h in
+    let p = y .num .plus in
+    let m = y .num .minus in
+    record {
+      eq = omega (
+        arith,
+        ap (λ (t : ℕ). t * p) (i .0),
+        ap (λ (t : ℕ). t * m) (i .0),
+        ap (λ (t : ℕ). t * p) (i .1),
+        ap (λ (t : ℕ). t * m) (i .1),
+        ap (λ (t : ℕ). t * y .den) (i .2),
+      );
+    }
 
 pub inv-nonneg : (y : Fraction) → natᶠ 0 <ᶠ y → natᶠ 0 ≤ᶠ invᶠ y
-inv-nonneg y h = let i = inv-num y h in record { le = omega (arith, i .1) }
+inv-nonneg y h = let i = inv-parts y h in record { le = omega (arith, i .1) }
 
--- x / y * y is x
-pub div-mul : (x y : Fraction) → natᶠ 0 <ᶠ y → x /ᶠ y *ᶠ y ≈ᶠ x
-unfolding _/ᶠ_
-div-mul x y h = trans≈ (mul-assoc x (invᶠ y) y) (trans≈ (mul-cong x (inv-mul y h)) (mul-one x))
+inv-neg : (y : Fraction) → invᶠ (negᶠ y) *ᶠ negᶠ y ≈ᶠ invᶠ y *ᶠ y
+unfolding invᶠ negᶠ _*ᶠ_
+inv-neg y =
+    let s : max 1 ((y .num .minus - y .num .plus) + (y .num .plus - y .num .minus)) ≡ max 1 ((y .num .plus - y .num .minus) + (y .num .minus - y .num .plus)) =
+    ap (λ (t : ℕ). max 1 t) (add-comm (y .num .minus - y .num .plus) (y .num .plus - y .num .minus)) in
+    record { eq = rw s (omega arith) }
 
--- ---- 1 / y for a y below 0, and for any y but 0
-pub inv-num⁻ : (y : Fraction) → y <ᶠ natᶠ 0 → ((invᶠ y) .num .plus ≡ 0) × ((invᶠ y) .num .minus ≡ y .den) × ((invᶠ y) .den + y .num .plus ≡ y .num .minus)
-unfolding invᶠ
-inv-num⁻ y h =
-    let l : y .num .plus < y .num .minus = omega (arith, h .lt) in (
-      bottom (y .num .minus) (y .num .plus) (y .den) (ltb (y .num .minus) (y .num .plus)) (ltb→lt (y .num .minus) (y .num .plus)) (native.Mathlib.Nat.le-of-lt l),
-      top (y .num .plus) (y .num .minus) (y .den) (ltb (y .num .plus) (y .num .minus)) (ltb→lt (y .num .plus) (y .num .minus)) (nltb→le (y .num .plus) (y .num .minus)) l,
-      omega arith,
-    )
-
-inv-mul⁻ : (y : Fraction) → y <ᶠ natᶠ 0 → invᶠ y *ᶠ y ≈ᶠ natᶠ 1
-unfolding _*ᶠ_
-inv-mul⁻ y h =
-    let i = inv-num⁻ y h in
-    record { eq = omega (arith, ap (λ (t : ℕ). t * y .num .plus) (i .0), ap (λ (t : ℕ). t * y .num .minus) (i .0), ap (λ (t : ℕ). t * y .num .plus) (i .1), ap (λ (t : ℕ). t * y .num .minus) (i .1), ap (λ (t : ℕ). t * y .den) (i .2)) }
-
-pub inv-mul-any : (y : Fraction) → ¬ (y ≈ᶠ natᶠ 0) → invᶠ y *ᶠ y ≈ᶠ natᶠ 1
-inv-mul-any y f = go (decLe (y .num .plus) (y .num .minus)) (decLe (y .num .minus) (y .num .plus))
+-- 1 / y times y is 1, for every y but 0
+pub inv-mul : (y : Fraction) → ¬ (y ≈ᶠ natᶠ 0) → invᶠ y *ᶠ y ≈ᶠ natᶠ 1
+inv-mul y f = go (decLe (y .num .plus) (y .num .minus)) (decLe (y .num .minus) (y .num .plus))
   where
+    turned : y .num .plus < y .num .minus → natᶠ 0 <ᶠ negᶠ y
+    turned l = unfold negᶠ in record { lt = omega arith }
+
     go : Dec (y .num .plus ≤ y .num .minus) → Dec (y .num .minus ≤ y .num .plus) → invᶠ y *ᶠ y ≈ᶠ natᶠ 1
     go (yes a) (yes b) = absurd (f (record { eq = omega arith }))
-    go (yes a) (no b) = inv-mul⁻ y (record { lt = omega arith })
-    go (no a) b = inv-mul y (record { lt = omega arith })
+    go (yes a) (no b) = trans≈ (sym≈ (inv-neg y)) (inv-mul⁺ (negᶠ y) (turned (omega arith)))
+    go (no a) b = inv-mul⁺ y (record { lt = omega arith })
+
+-- a number above 0 is not 0
+pub above-not : {y : Fraction} → natᶠ 0 <ᶠ y → ¬ (y ≈ᶠ natᶠ 0)
+above-not h e = omega (arith, h .lt, e .eq)
 
 -- x / y * y is x, and a factor that is not 0 cancels
-pub div-mul-any : (x y : Fraction) → ¬ (y ≈ᶠ natᶠ 0) → x /ᶠ y *ᶠ y ≈ᶠ x
+pub div-mul : (x y : Fraction) → ¬ (y ≈ᶠ natᶠ 0) → x /ᶠ y *ᶠ y ≈ᶠ x
 unfolding _/ᶠ_
-div-mul-any x y f = trans≈ (mul-assoc x (invᶠ y) y) (trans≈ (mul-cong x (inv-mul-any y f)) (mul-one x))
+div-mul x y f = trans≈ (mul-assoc x (invᶠ y) y) (trans≈ (mul-cong x (inv-mul y f)) (mul-one x))
 
 pub cancel : (x z y : Fraction) → ¬ (y ≈ᶠ natᶠ 0) → x *ᶠ y ≈ᶠ z *ᶠ y → x ≈ᶠ z
-cancel x z y f h = trans≈ (sym≈ (back x)) (trans≈ (trans≈ (mul-comm (x *ᶠ y) (invᶠ y)) (trans≈ (mul-cong (invᶠ y) h) (mul-comm (invᶠ y) (z *ᶠ y)))) (back z))
+cancel x z y f h =
+    trans≈ (sym≈ (back x))
+    (trans≈ (trans≈ (mul-comm (x *ᶠ y) (invᶠ y)) (trans≈ (mul-cong (invᶠ y) h) (mul-comm (invᶠ y) (z *ᶠ y)))) (back z))
   where
     back : (w : Fraction) → w *ᶠ y *ᶠ invᶠ y ≈ᶠ w
-    back w = trans≈ (mul-assoc w y (invᶠ y)) (trans≈ (mul-cong w (trans≈ (mul-comm y (invᶠ y)) (inv-mul-any y f))) (mul-one w))
+    back w = trans≈ (mul-assoc w y (invᶠ y)) (trans≈ (mul-cong w (trans≈ (mul-comm y (invᶠ y)) (inv-mul y f))) (mul-one w))
+
+-- x * y ≤ z is x ≤ z / y, for a y above 0
+pub le-div : {x y z : Fraction} → natᶠ 0 <ᶠ y → x *ᶠ y ≤ᶠ z → x ≤ᶠ z /ᶠ y
+unfolding _/ᶠ_
+le-div {x} {y} {z} p h = trans (of-eq (sym≈ back)) (mul-mono-right (inv-nonneg y p) h)
+  where
+    back : x *ᶠ y *ᶠ invᶠ y ≈ᶠ x
+    back = trans≈ (mul-assoc x y (invᶠ y)) (trans≈ (mul-cong x (trans≈ (mul-comm y (invᶠ y)) (inv-mul y (above-not p)))) (mul-one x))

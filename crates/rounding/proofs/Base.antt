@@ -16,7 +16,7 @@ use Rattle.fraction.specs.Whole.{Whole, _×ℕ_, natʷ, _≤ʷ_, _≈ʷ_}
 use Rattle.fraction.specs.Fraction.{Fraction, _≤ᶠ_, _≈ᶠ_}
 use Rattle.fraction.proofs.Linear.{trans}
 use Rattle.fraction.proofs.Order.{of-eq, sym≈}
-use Rattle.rounding.specs.Value.{sgn, sfrac, val}
+use Rattle.rounding.specs.Value.{signed, signedᶠ, val}
 use Rattle.rounding.proofs.Grid.{Off, grid-off}
 use Rattle.rounding.proofs.Compare.{le-val}
 
@@ -29,7 +29,7 @@ top-is : (f : Format) → overflow f ≡ 2 * (2 ^ emax f * 2 ^ low f)
 top-is binary32 = refl
 top-is binary64 = refl
 
-fine : (G c n P E : ℕ) → 0 < c → 2 ≤ P → 2 ≤ E → Off G c n P → n ≤ E * c → G < 2 * E
+fine : (G c n P E : ℕ) → 0 < c → 2 ≤ P → 2 ≤ E → Off G c n P (c * P) → n ≤ E * c → G < 2 * E
 fine G c n P E C p e o h = lt-of-not-le (λ (g : 2 * E ≤ G). omega (arith, o .hi, mul-le-mul-right (2 * P) h, mul-le-mul-right (c * (2 * P)) g, mul-le-mul-left (E * c) p, mul-le-mul-right (c * P) e, mul-le-mul-left c p))
 
 pub under : (f : Format) (a c : ℕ) → 0 < c → a ≤ 2 ^ emax f * c → grid f a c < overflow f
@@ -39,13 +39,13 @@ under f a c C h =
     (fine (grid f a c) c (a * L) (hid f) (2 ^ emax f * L) C (big f .0) (big f .1) (grid-off f a c C) (omega (arith, mul-le-mul-right L h)))
 
 -- ---- a float by the fraction that it equals
-pub value-is : (x : Float) (s : Bool) (a c : ℕ) (C : 0 < c) → HasValue x s a c → T (finite x) × (val x ≈ᶠ sfrac s a c C)
+pub value-is : (x : Float) (s : Bool) (a c : ℕ) (C : 0 < c) → HasValue x s a c → T (finite x) × (val x ≈ᶠ signedᶠ s a c C)
 unfolding val
 value-is nan s a c C h = absurd h
 value-is (inf t) s a c C h = absurd h
 value-is (fin t m e) s a c C h = (tt, record { eq = go t s (h .0) })
   where
-    go : (t s : Bool) → t ≡ s → sgn t (m * up e) ×ℕ c ≈ʷ sgn s a ×ℕ down e
+    go : (t s : Bool) → t ≡ s → signed t (m * up e) ×ℕ c ≈ʷ signed s a ×ℕ down e
     go true true q = omega (arith, h .1)
     go false false q = omega (arith, h .1)
     go true false q = absurd (mathlib.Core.Bool.true≢false q)
@@ -77,6 +77,13 @@ fits-parts f s m e t =
       ltb→lt (suc m * up e) (2 ^ suc (emax f) * down e) (and-r (a && b && c) d t),
     )
 
+-- a value of the format is a whole number of its smallest values
+pub in-units : (f : Format) (s : Bool) (m : ℕ) (e : ℤ) → T (fits f (fin s m e)) → (w : ℕ) × (m * up e * 2 ^ low f ≡ w * down e)
+in-units f s zero e t = (0, omega arith)
+in-units f s (suc m) e t =
+    let j = divides (low f) e ((fits-parts f s m e t) .1) in
+    (suc m * 2 ^ j .0, omega (arith, ap (λ (x : ℕ). suc m * x) (j .1)))
+
 pub own-rounding : (f : Format) (s r : Bool) (m : ℕ) (e : ℤ) → T (fits f (fin s m e)) → HasValue (round f r (m * up e) (down e)) r (m * up e) (down e)
 own-rounding f s r zero e t = round-exact f r (0 * up e) (down e) 0 0 (down-pos e) (pow-pos (prec f)) (pow-pos (low f + suc (emax f))) (omega arith)
 own-rounding f s r (suc m) e t =
@@ -90,10 +97,10 @@ own-rounding f s r (suc m) e t =
 
 -- ---- so it bounds what rounds below or above it. The value is b / d in size, the fraction a / c, and G / 2 ^ low what that rounds to
 module _ (f : Format) (a c : ℕ) (C : 0 < c) (h : a ≤ 2 ^ emax f * c) (s : Bool) (m : ℕ) (e : ℤ) (t : T (fits f (fin s m e))) where
-  mine : T (finite (round f false a c)) × (val (round f false a c) ≈ᶠ sfrac false (grid f a c) (2 ^ low f) (pow-pos (low f)))
+  mine : T (finite (round f false a c)) × (val (round f false a c) ≈ᶠ signedᶠ false (grid f a c) (2 ^ low f) (pow-pos (low f)))
   mine = value-is (round f false a c) false (grid f a c) (2 ^ low f) (pow-pos (low f)) (round-value f false a c (under f a c C h))
 
-  its : T (finite (round f false (m * up e) (down e))) × (val (round f false (m * up e) (down e)) ≈ᶠ sfrac false (m * up e) (down e) (down-pos e))
+  its : T (finite (round f false (m * up e) (down e))) × (val (round f false (m * up e) (down e)) ≈ᶠ signedᶠ false (m * up e) (down e) (down-pos e))
   its = value-is (round f false (m * up e) (down e)) false (m * up e) (down e) (down-pos e) (own-rounding f s false m e t)
 
   pub cap-above : a * down e ≤ m * up e * c → grid f a c * down e ≤ m * up e * 2 ^ low f

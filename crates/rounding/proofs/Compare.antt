@@ -1,10 +1,9 @@
--- The floats' tests `lt` and `le`, at finite values, are the fractions' order. Assumes nothing.
-use mathlib.Core.Path.{_≡_, refl, sym, ap, subst}
+-- The floats' tests `lt`, `eq` and `le`, at finite values, are the fractions' order. Assumes nothing.
+use mathlib.Core.Path.{_≡_, sym, ap, subst₂}
 use mathlib.Core.Logic.{_⊎_, inl, inr}
 use mathlib.Core.Bool.{Bool, true, false, not, _&&_, _||_, Bool·beq}
 use Prim.Native.Nat.{ℕ, zero, suc, _+_, _*_, _≤_, _<_}
-use native.Mathlib.Nat.{eq-or-lt-of-le, le-of-eq}
-use native.Mathlib.Decide.{decLe}
+use native.Mathlib.Nat.{eq-or-lt-of-le, zero-mul}
 use native.Mathlib.Omega.{arith}
 use lib.Dec.{T, ltb, eqb, ltb→lt, lt→ltb, nltb→le, eqb→eq, not-T}
 use lib.Ieee.{Float, nan, inf, fin, up, down, below, level, lt, eq, le}
@@ -12,16 +11,17 @@ use lib.Ieee.Fits.{and-i, and-l, and-r, eq→eqb}
 use lib.Ieee.Scale.{finite}
 use Rattle.fraction.specs.Whole.{Whole, _×ℕ_, natʷ, _≤ʷ_, _<ʷ_, _≈ʷ_}
 use Rattle.fraction.specs.Fraction.{Fraction, _≤ᶠ_, _<ᶠ_, _≈ᶠ_}
-use Rattle.rounding.specs.Value.{sgn, val}
+use Rattle.fraction.proofs.Order.{of-eq, of-lt, le-or-lt}
+use Rattle.rounding.specs.Value.{signed, val}
 
 -- ---- two numbers with signs
-below-lt : (s : Bool) (a : ℕ) (t : Bool) (b : ℕ) → T (below s a t b) → sgn s a <ʷ sgn t b
+below-lt : (s : Bool) (a : ℕ) (t : Bool) (b : ℕ) → T (below s a t b) → signed s a <ʷ signed t b
 below-lt false a false b h = omega (arith, ltb→lt a b h)
 below-lt false a true b h = absurd h
 below-lt true a false b h = omega (arith, ltb→lt 0 (a + b) h)
 below-lt true a true b h = omega (arith, ltb→lt b a h)
 
-lt-below : (s : Bool) (a : ℕ) (t : Bool) (b : ℕ) → sgn s a <ʷ sgn t b → T (below s a t b)
+lt-below : (s : Bool) (a : ℕ) (t : Bool) (b : ℕ) → signed s a <ʷ signed t b → T (below s a t b)
 lt-below false a false b h = lt→ltb a b (omega (arith, h))
 lt-below false a true b h = absurd (none a b h)
   where
@@ -30,7 +30,7 @@ lt-below false a true b h = absurd (none a b h)
 lt-below true a false b h = lt→ltb 0 (a + b) (omega (arith, h))
 lt-below true a true b h = lt→ltb b a (omega (arith, h))
 
-pub eq-level : (s : Bool) (a : ℕ) (t : Bool) (b : ℕ) → sgn s a ≈ʷ sgn t b → T (level s a t b)
+eq-level : (s : Bool) (a : ℕ) (t : Bool) (b : ℕ) → signed s a ≈ʷ signed t b → T (level s a t b)
 eq-level false a false b h = and-i (eqb a b) true (eq→eqb {a = a} {b = b} (omega (arith, h))) tt
 eq-level true a true b h = and-i (eqb a b) true (eq→eqb {a = a} {b = b} (omega (arith, h))) tt
 eq-level false a true b h = and-i (eqb a b) (eqb a 0) (eq→eqb {a = a} {b = b} (omega (arith, h))) (eq→eqb {a = a} {b = 0} (omega (arith, h)))
@@ -40,11 +40,23 @@ or-split : (a b : Bool) → T (a || b) → T a ⊎ T b
 or-split true b t = inl tt
 or-split false b t = inr t
 
-pub level-eq : (s : Bool) (a : ℕ) (t : Bool) (b : ℕ) → T (level s a t b) → sgn s a ≈ʷ sgn t b
+level-eq : (s : Bool) (a : ℕ) (t : Bool) (b : ℕ) → T (level s a t b) → signed s a ≈ʷ signed t b
 level-eq false a false b h = omega (arith, eqb→eq a b (and-l (eqb a b) true h))
 level-eq true a true b h = omega (arith, eqb→eq a b (and-l (eqb a b) true h))
 level-eq false a true b h = omega (arith, eqb→eq a b (and-l (eqb a b) (eqb a 0) h), eqb→eq a 0 (and-r (eqb a b) (eqb a 0) h))
 level-eq true a false b h = omega (arith, eqb→eq a b (and-l (eqb a b) (eqb a 0) h), eqb→eq a 0 (and-r (eqb a b) (eqb a 0) h))
+
+-- a multiple of a number with a sign
+pub scaled : (s : Bool) (a k : ℕ) → signed s a ×ℕ k ≡ signed s (a * k)
+scaled true a k = ap (λ (z : ℕ). record { plus = z; minus = a * k }) (zero-mul k)
+scaled false a k = ap (λ (z : ℕ). record { plus = a * k; minus = z }) (zero-mul k)
+
+module _ (P : Whole → Whole → Type 0) (s : Bool) (a k : ℕ) (t : Bool) (b l : ℕ) where
+  multiples : P (signed s (a * k)) (signed t (b * l)) → P (signed s a ×ℕ k) (signed t b ×ℕ l)
+  multiples h = subst₂ P (sym (scaled s a k)) (sym (scaled t b l)) h
+
+  of-multiples : P (signed s a ×ℕ k) (signed t b ×ℕ l) → P (signed s (a * k)) (signed t (b * l))
+  of-multiples h = subst₂ P (scaled s a k) (scaled t b l) h
 
 -- ---- `lt`
 pub lt-val : (x y : Float) → T (finite x) → T (finite y) → T (lt x y) → val x <ᶠ val y
@@ -53,13 +65,7 @@ lt-val nan y p q h = absurd p
 lt-val (inf s) y p q h = absurd p
 lt-val (fin s m e) nan p q h = absurd q
 lt-val (fin s m e) (inf t) p q h = absurd q
-lt-val (fin s m e) (fin t n d) p q h = record { lt = go s t (below-lt s (m * up e * down d) t (n * up d * down e) h) }
-  where
-    go : (s t : Bool) → sgn s (m * up e * down d) <ʷ sgn t (n * up d * down e) → sgn s (m * up e) ×ℕ down d <ʷ sgn t (n * up d) ×ℕ down e
-    go true true k = omega (arith, k)
-    go true false k = omega (arith, k)
-    go false true k = omega (arith, k)
-    go false false k = omega (arith, k)
+lt-val (fin s m e) (fin t n d) p q h = record { lt = multiples _<ʷ_ s (m * up e) (down d) t (n * up d) (down e) (below-lt s (m * up e * down d) t (n * up d * down e) h) }
 
 pub val-lt : (x y : Float) → T (finite x) → T (finite y) → val x <ᶠ val y → T (lt x y)
 unfolding lt val
@@ -67,45 +73,37 @@ val-lt nan y p q h = absurd p
 val-lt (inf s) y p q h = absurd p
 val-lt (fin s m e) nan p q h = absurd q
 val-lt (fin s m e) (inf t) p q h = absurd q
-val-lt (fin s m e) (fin t n d) p q h = lt-below s (m * up e * down d) t (n * up d * down e) (go s t (h .lt))
-  where
-    go : (s t : Bool) → sgn s (m * up e) ×ℕ down d <ʷ sgn t (n * up d) ×ℕ down e → sgn s (m * up e * down d) <ʷ sgn t (n * up d * down e)
-    go true true k = omega (arith, k)
-    go true false k = omega (arith, k)
-    go false true k = omega (arith, k)
-    go false false k = omega (arith, k)
+val-lt (fin s m e) (fin t n d) p q h = lt-below s (m * up e * down d) t (n * up d * down e) (of-multiples _<ʷ_ s (m * up e) (down d) t (n * up d) (down e) (h .lt))
 
 pub not-lt-val : (x y : Float) → T (finite x) → T (finite y) → T (not (lt x y)) → val y ≤ᶠ val x
-not-lt-val x y p q h = record { le = go (decLe _ _) }
-  where
-    go : Dec ((val y) .num .plus * (val x) .den + (val x) .num .minus * (val y) .den ≤ (val x) .num .plus * (val y) .den + (val y) .num .minus * (val x) .den)
-        → (val y) .num .plus * (val x) .den + (val x) .num .minus * (val y) .den ≤ (val x) .num .plus * (val y) .den + (val y) .num .minus * (val x) .den
-    go (yes k) = k
-    go (no k) = absurd (lib.Dec.T-not (lt x y) h (val-lt x y p q (record { lt = omega (arith, k) })))
+not-lt-val x y p q h = elim (le-or-lt (val y) (val x)) [
+  | inl k ↦ k
+  | inr k ↦ absurd (lib.Dec.T-not (lt x y) h (val-lt x y p q k))
+]
 
--- ---- `le`
+-- ---- `eq` and `le`
+pub eq-val : (x y : Float) → T (finite x) → T (finite y) → T (eq x y) → val x ≈ᶠ val y
+unfolding eq val
+eq-val nan y p q h = absurd p
+eq-val (inf s) y p q h = absurd p
+eq-val (fin s m e) nan p q h = absurd q
+eq-val (fin s m e) (inf t) p q h = absurd q
+eq-val (fin s m e) (fin t n d) p q h = record { eq = multiples _≈ʷ_ s (m * up e) (down d) t (n * up d) (down e) (level-eq s (m * up e * down d) t (n * up d * down e) h) }
+
+pub val-eq : (x y : Float) → T (finite x) → T (finite y) → val x ≈ᶠ val y → T (eq x y)
+unfolding eq val
+val-eq nan y p q h = absurd p
+val-eq (inf s) y p q h = absurd p
+val-eq (fin s m e) nan p q h = absurd q
+val-eq (fin s m e) (inf t) p q h = absurd q
+val-eq (fin s m e) (fin t n d) p q h = eq-level s (m * up e * down d) t (n * up d * down e) (of-multiples _≈ʷ_ s (m * up e) (down d) t (n * up d) (down e) (h .eq))
+
 pub le-val : (x y : Float) → T (finite x) → T (finite y) → T (le x y) → val x ≤ᶠ val y
-unfolding le val
-le-val nan y p q h = absurd p
-le-val (inf s) y p q h = absurd p
-le-val (fin s m e) nan p q h = absurd q
-le-val (fin s m e) (inf t) p q h = absurd q
-le-val (fin s m e) (fin t n d) p q h = record {
-  le = elim (or-split (lt (fin s m e) (fin t n d)) (eq (fin s m e) (fin t n d)) h) [
-    | inl k ↦ go s t (inl (below-lt s (m * up e * down d) t (n * up d * down e) k))
-    | inr k ↦ go s t (inr (level-eq s (m * up e * down d) t (n * up d * down e) k))
-  ];
-}
-  where
-    go : (s t : Bool) → (sgn s (m * up e * down d) <ʷ sgn t (n * up d * down e)) ⊎ (sgn s (m * up e * down d) ≈ʷ sgn t (n * up d * down e)) → sgn s (m * up e) ×ℕ down d ≤ʷ sgn t (n * up d) ×ℕ down e
-    go true true (inl k) = omega (arith, k)
-    go true true (inr k) = omega (arith, k)
-    go true false (inl k) = omega (arith, k)
-    go true false (inr k) = omega (arith, k)
-    go false true (inl k) = omega (arith, k)
-    go false true (inr k) = omega (arith, k)
-    go false false (inl k) = omega (arith, k)
-    go false false (inr k) = omega (arith, k)
+unfolding le
+le-val x y p q h = elim (or-split (lt x y) (eq x y) h) [
+  | inl k ↦ of-lt (lt-val x y p q k)
+  | inr k ↦ of-eq (eq-val x y p q k)
+]
 
 or-l : (a b : Bool) → T a → T (a || b)
 or-l true b t = tt
@@ -116,26 +114,14 @@ or-r true b t = tt
 or-r false b t = t
 
 pub val-le : (x y : Float) → T (finite x) → T (finite y) → val x ≤ᶠ val y → T (le x y)
-unfolding le val
-val-le nan y p q h = absurd p
-val-le (inf s) y p q h = absurd p
-val-le (fin s m e) nan p q h = absurd q
-val-le (fin s m e) (inf t) p q h = absurd q
-val-le (fin s m e) (fin t n d) p q h = elim (eq-or-lt-of-le (h .le)) [
-  | inl k ↦ or-r (lt (fin s m e) (fin t n d)) (eq (fin s m e) (fin t n d)) (eq-level s (m * up e * down d) t (n * up d * down e) (go s t k))
-  | inr k ↦ or-l (lt (fin s m e) (fin t n d)) (eq (fin s m e) (fin t n d)) (val-lt (fin s m e) (fin t n d) tt tt (record { lt = k }))
+unfolding le
+val-le x y p q h = elim (eq-or-lt-of-le (h .le)) [
+  | inl k ↦ or-r (lt x y) (eq x y) (val-eq x y p q (record { eq = k }))
+  | inr k ↦ or-l (lt x y) (eq x y) (val-lt x y p q (record { lt = k }))
 ]
-  where
-    go : (s t : Bool) → sgn s (m * up e) ×ℕ down d ≈ʷ sgn t (n * up d) ×ℕ down e → sgn s (m * up e * down d) ≈ʷ sgn t (n * up d * down e)
-    go true true k = omega (arith, k)
-    go true false k = omega (arith, k)
-    go false true k = omega (arith, k)
-    go false false k = omega (arith, k)
 
 pub not-le-val : (x y : Float) → T (finite x) → T (finite y) → T (not (le x y)) → val y <ᶠ val x
-not-le-val x y p q h = record { lt = go (decLe _ _) }
-  where
-    go : Dec ((val x) .num .plus * (val y) .den + (val y) .num .minus * (val x) .den ≤ (val y) .num .plus * (val x) .den + (val x) .num .minus * (val y) .den)
-        → (val y) .num .plus * (val x) .den + (val x) .num .minus * (val y) .den < (val x) .num .plus * (val y) .den + (val y) .num .minus * (val x) .den
-    go (yes k) = absurd (lib.Dec.T-not (le x y) h (val-le x y p q (record { le = k })))
-    go (no k) = omega (arith, k)
+not-le-val x y p q h = elim (le-or-lt (val x) (val y)) [
+  | inl k ↦ absurd (lib.Dec.T-not (le x y) h (val-le x y p q k))
+  | inr k ↦ k
+]

@@ -17,14 +17,10 @@ use Rattle.fraction.specs.Whole.{Whole, _+ʷ_, _-ʷ_, _*ʷ_, _×ℕ_, negʷ, na
 use Rattle.fraction.specs.Fraction.{Fraction, _≤ᶠ_, _≈ᶠ_, natᶠ, _+ᶠ_, _-ᶠ_, _*ᶠ_, negᶠ}
 use Rattle.fraction.proofs.Linear.{At, at-same, at-eq, eq-at, add-at, sub-at, neg-at, mul-at, same-is, over}
 use Rattle.fraction.proofs.Order.{sym≈, trans≈}
-use Rattle.rounding.specs.Value.{sgn, sfrac, val}
+use Rattle.rounding.specs.Rounding.{Is}
+use Rattle.rounding.specs.Value.{signed, signedᶠ, val}
 use Rattle.rounding.proofs.Base.{value-is}
 use Rattle.rounding.proofs.Ops.{SumIs, sum-is, spread, val-neg, finite-neg, minus-is, product}
-
--- r is X, exactly
-pub record Is (X : Fraction) (r : Float) : Type 0 where
-  pub fine : T (finite r)
-  pub eq : val r ≈ᶠ X
 
 pub is-same : {X Y : Fraction} {r : Float} → X ≈ᶠ Y → Is X r → Is Y r
 is-same q h = record { fine = h .fine; eq = trans≈ (h .eq) q }
@@ -33,7 +29,7 @@ room : (p e l j : ℕ) → p ≤ suc e → j ≤ l → p + j ≤ l + suc e
 room p e l j h k = omega arith
 
 -- ---- `round` at q / 2 ^ k
-pub round-is-exact : (f : Format) (s : Bool) (a c : ℕ) (C : 0 < c) (q k : ℕ) → k ≤ low f → q < 2 ^ prec f → a * 2 ^ k ≡ q * c → Is (sfrac s a c C) (round f s a c)
+pub round-is-exact : (f : Format) (s : Bool) (a c : ℕ) (C : 0 < c) (q k : ℕ) → k ≤ low f → q < 2 ^ prec f → a * 2 ^ k ≡ q * c → Is (signedᶠ s a c C) (round f s a c)
 round-is-exact f s a c C q k h small e =
     let j = low f - k in
     let p : 2 ^ low f ≡ 2 ^ j * 2 ^ k = ap (λ (x : ℕ). 2 ^ x) (omega arith) ∙ pow-add 2 j k in
@@ -43,7 +39,7 @@ round-is-exact f s a c C q k h small e =
     record { fine = v .0; eq = v .1 }
 
 -- the number of units, from a signed one
-count : (r : Bool) (z : Whole) (d c K : ℕ) → 0 < c → z ×ℕ c ≈ʷ sgn r d ×ℕ K → d * K ≡ sizeʷ z * c
+count : (r : Bool) (z : Whole) (d c K : ℕ) → 0 < c → z ×ℕ c ≈ʷ signed r d ×ℕ K → d * K ≡ sizeʷ z * c
 count true z d c K C h =
     let l : z .plus ≤ z .minus = le-of-mul-le-mul-right (omega (arith, h)) C in
     let u = le-dest l in
@@ -67,7 +63,7 @@ add-exact f k (fin s m e) (fin t n d) p q l X Y h =
     let S = sum-is f s (m * up e * down d) t (n * up d * down e) (down e * down d) C in
     let E = trans≈ (sym≈ (S .eq)) (spread s (m * up e) (down e) (down-pos e) t (n * up d) (down d) (down-pos d)) in
     let Z = at-same (2 ^ k) (sym≈ E) (add-at (2 ^ k) X Y) in
-    subst (λ (r : Float). Is (sfrac s (m * up e) (down e) (down-pos e) +ᶠ sfrac t (n * up d) (down d) (down-pos d)) r) (sym (S .is))
+    subst (λ (r : Float). Is (signedᶠ s (m * up e) (down e) (down-pos e) +ᶠ signedᶠ t (n * up d) (down d) (down-pos d)) r) (sym (S .is))
     (is-same E (round-is-exact f (S .r) (S .d) (down e * down d) C (sizeʷ (X .z +ʷ Y .z)) k l h (count (S .r) (X .z +ʷ Y .z) (S .d) (down e * down d) (2 ^ k) C (Z .is))))
 
 pub sub-exact : (f : Format) (k : ℕ) (x y : Float) → T (finite x) → T (finite y) → k ≤ low f → (X : At (2 ^ k) (val x)) (Y : At (2 ^ k) (val y)) → sizeʷ (X .z -ʷ Y .z) < 2 ^ prec f → Is (val x -ᶠ val y) (sub f x y)

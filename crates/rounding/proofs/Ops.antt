@@ -17,20 +17,22 @@ use Rattle.fraction.proofs.Linear.{At, at, at-le, at-eq, le-at, eq-at, add-at, 
 use mathlib.Core.List.{List, [], _∷_}
 use Rattle.fraction.proofs.Order.{sym≈, trans≈}
 use Rattle.fraction.proofs.Near.{within-same}
-use Rattle.rounding.specs.Value.{sgn, sfrac, val, ulp, tiny}
-use Rattle.rounding.proofs.Round.{Rounds, Rounds⁺, round-rounds, round-rounds⁺, rounds-same, rounds⁺-same}
+use Rattle.rounding.specs.Value.{signed, signedᶠ, val, roundoff, tiny}
+use Rattle.rounding.proofs.Base.{in-units}
+use Rattle.rounding.specs.Rounding.{Rounds}
+use Rattle.rounding.proofs.Round.{round-rounds, round-rounds-units, rounds-same}
 
 -- ---- `sum` is one rounding: of ± d / c
 pub record SumIs (f : Format) (s : Bool) (a : ℕ) (t : Bool) (b c : ℕ) (C : 0 < c) : Type 0 where
   pub r : Bool
   pub d : ℕ
   pub is : sum f s a t b c ≡ round f r d c
-  pub eq : sfrac s a c C +ᶠ sfrac t b c C ≈ᶠ sfrac r d c C
+  pub eq : signedᶠ s a c C +ᶠ signedᶠ t b c C ≈ᶠ signedᶠ r d c C
   pub units : (L w v : ℕ) → a * L ≡ w * c → b * L ≡ v * c → (u : ℕ) × (d * L ≡ u * c)
 
 -- with one denominator the numerators are added
-join : (s : Bool) (a : ℕ) (t : Bool) (b : ℕ) (r : Bool) (d c : ℕ) (C : 0 < c) → sgn s a +ʷ sgn t b ≈ʷ sgn r d → sfrac s a c C +ᶠ sfrac t b c C ≈ᶠ sfrac r d c C
-join s a t b r d c C h = eq-at c (add-at c (self (sfrac s a c C)) (self (sfrac t b c C))) (self (sfrac r d c C)) C h
+join : (s : Bool) (a : ℕ) (t : Bool) (b : ℕ) (r : Bool) (d c : ℕ) (C : 0 < c) → signed s a +ʷ signed t b ≈ʷ signed r d → signedᶠ s a c C +ᶠ signedᶠ t b c C ≈ᶠ signedᶠ r d c C
+join s a t b r d c C h = eq-at c (add-at c (self (signedᶠ s a c C)) (self (signedᶠ t b c C))) (self (signedᶠ r d c C)) C h
 
 rest : (a b d c : ℕ) → 0 < c → a + d ≡ b → (L w v : ℕ) → a * L ≡ w * c → b * L ≡ v * c → (u : ℕ) × (d * L ≡ u * c)
 rest a b d c C e L w v h k =
@@ -45,7 +47,7 @@ sum-is f true a true b c C = record { r = true; d = a + b; is = refl; eq = join 
 sum-is f false a false b c C = record { r = false; d = a + b; is = refl; eq = join false a false b false (a + b) c C (omega arith); units = λ L w v h k. (w + v, omega arith) }
 sum-is f true a false b c C = go (ltb a b) refl (ltb→lt a b) (nltb→le a b)
   where
-    low-end : (y : Bool) → ltb b a ≡ y → (T y → b < a) → (T (not y) → a ≤ b) → b ≤ a → sgn true a +ʷ sgn false b ≈ʷ sgn y (a - b)
+    low-end : (y : Bool) → ltb b a ≡ y → (T y → b < a) → (T (not y) → a ≤ b) → b ≤ a → signed true a +ʷ signed false b ≈ʷ signed y (a - b)
     low-end true q g h l = omega arith
     low-end false q g h l = omega (arith, h tt)
 
@@ -82,39 +84,29 @@ sum-is f false a true b c C = go (ltb a b) refl (ltb→lt a b) (nltb→le a b)
       units = λ L w v x y. rest b a (a - b) c C (add-sub-of-le (h tt)) L v w y x;
     }
 
--- ---- a value of the format is a whole number of its smallest values
-divides : (l : ℕ) (e : ℤ) → down e ≤ 2 ^ l → (j : ℕ) × (2 ^ l ≡ j * down e)
-divides l (pos k) h = (2 ^ l, omega arith)
-divides l (negsuc k) h =
-    let g : suc k ≤ l = le-of-suc-le-suc (lt-of-not-le (λ (n : suc l ≤ suc k). not-le-of-lt (pow-lt n) h)) in
-    (2 ^ (l - suc k), ap (λ (x : ℕ). 2 ^ x) (omega (arith, g)) ∙ pow-add 2 (l - suc k) (suc k))
+-- ---- the sum, over one denominator
+at-left : (s : Bool) (a c k : ℕ) (C : 0 < c) → At (c * k) (signedᶠ s a c C)
+at-left s a c k C = record { z = signed s (a * k); is = over s }
+  where
+    over : (s : Bool) → signed s (a * k) ×ℕ c ≈ʷ signed s a ×ℕ (c * k)
+    over true = omega arith
+    over false = omega arith
 
-in-units : (f : Format) (s : Bool) (m : ℕ) (e : ℤ) → T (fits f (fin s m e)) → (w : ℕ) × (m * up e * 2 ^ low f ≡ w * down e)
-unfolding fits
-in-units f s zero e t = (0, omega arith)
-in-units f s (suc m) e t =
-    let d : down e ≤ 2 ^ low f = leb→le (down e) (2 ^ low f) (and-r (eqb (suc m % 2) 1 && ltb (suc m) (2 ^ prec f)) (leb (down e) (2 ^ low f)) (and-l (eqb (suc m % 2) 1 && ltb (suc m) (2 ^ prec f) && leb (down e) (2 ^ low f)) (ltb (suc m * up e) (2 ^ suc (emax f) * down e)) t)) in
-    let j = divides (low f) e d in
-    (suc m * up e * j .0, ap (λ (x : ℕ). suc m * up e * x) (j .1) ∙ omega arith)
+at-right : (s : Bool) (a c k : ℕ) (C : 0 < c) → At (k * c) (signedᶠ s a c C)
+at-right s a c k C = record { z = signed s (a * k); is = over s }
+  where
+    over : (s : Bool) → signed s (a * k) ×ℕ c ≈ʷ signed s a ×ℕ (k * c)
+    over true = omega arith
+    over false = omega arith
 
--- ---- the sum
-at-left : (s : Bool) (a c k : ℕ) (C : 0 < c) → At (c * k) (sfrac s a c C)
-at-left true a c k C = record { z = sgn true (a * k); is = omega arith }
-at-left false a c k C = record { z = sgn false (a * k); is = omega arith }
-
-at-right : (s : Bool) (a c k : ℕ) (C : 0 < c) → At (k * c) (sfrac s a c C)
-at-right true a c k C = record { z = sgn true (a * k); is = omega arith }
-at-right false a c k C = record { z = sgn false (a * k); is = omega arith }
-
--- to one denominator
-pub spread : (s : Bool) (a c : ℕ) (C : 0 < c) (t : Bool) (b d : ℕ) (D : 0 < d) → sfrac s (a * d) (c * d) (mul-pos C D) +ᶠ sfrac t (b * c) (c * d) (mul-pos C D) ≈ᶠ sfrac s a c C +ᶠ sfrac t b d D
+pub spread : (s : Bool) (a c : ℕ) (C : 0 < c) (t : Bool) (b d : ℕ) (D : 0 < d)
+    → signedᶠ s (a * d) (c * d) (mul-pos C D) +ᶠ signedᶠ t (b * c) (c * d) (mul-pos C D) ≈ᶠ signedᶠ s a c C +ᶠ signedᶠ t b d D
 unfolding at-left at-right
-spread true a c C true b d D = eq-at (c * d) (add-at (c * d) (self (sfrac true (a * d) (c * d) (mul-pos C D))) (self (sfrac true (b * c) (c * d) (mul-pos C D)))) (add-at (c * d) (at-left true a c d C) (at-right true b d c D)) (mul-pos C D) refl
-spread true a c C false b d D = eq-at (c * d) (add-at (c * d) (self (sfrac true (a * d) (c * d) (mul-pos C D))) (self (sfrac false (b * c) (c * d) (mul-pos C D)))) (add-at (c * d) (at-left true a c d C) (at-right false b d c D)) (mul-pos C D) refl
-spread false a c C true b d D = eq-at (c * d) (add-at (c * d) (self (sfrac false (a * d) (c * d) (mul-pos C D))) (self (sfrac true (b * c) (c * d) (mul-pos C D)))) (add-at (c * d) (at-left false a c d C) (at-right true b d c D)) (mul-pos C D) refl
-spread false a c C false b d D = eq-at (c * d) (add-at (c * d) (self (sfrac false (a * d) (c * d) (mul-pos C D))) (self (sfrac false (b * c) (c * d) (mul-pos C D)))) (add-at (c * d) (at-left false a c d C) (at-right false b d c D)) (mul-pos C D) refl
+spread s a c C t b d D =
+    let E = mul-pos C D in
+    eq-at (c * d) (add-at (c * d) (self (signedᶠ s (a * d) (c * d) E)) (self (signedᶠ t (b * c) (c * d) E))) (add-at (c * d) (at-left s a c d C) (at-right t b d c D)) E refl
 
-pub add-rounds : (f : Format) (x y : Float) → T (finite x) → T (finite y) → T (fits f x) → T (fits f y) → Within (val x +ᶠ val y) (natᶠ (2 ^ emax f)) → Rounds⁺ f (val x +ᶠ val y) (add f x y)
+pub add-rounds : (f : Format) (x y : Float) → T (finite x) → T (finite y) → T (fits f x) → T (fits f y) → Within (val x +ᶠ val y) (natᶠ (2 ^ emax f)) → Rounds f (natᶠ 0) (val x +ᶠ val y) (add f x y)
 unfolding add val
 add-rounds f nan y p q g h w = absurd p
 add-rounds f (inf s) y p q g h w = absurd p
@@ -127,8 +119,8 @@ add-rounds f (fin s m e) (fin t n d) p q g h w =
     let j = in-units f t n d h in
     let u = S .units (2 ^ low f) (i .0) (j .0) (omega (arith, ap (λ (x : ℕ). x * down d) (i .1))) (omega (arith, ap (λ (x : ℕ). x * down e) (j .1))) in
     let E = trans≈ (sym≈ (S .eq)) (spread s (m * up e) (down e) (down-pos e) t (n * up d) (down d) (down-pos d)) in
-    subst (λ (r : Float). Rounds⁺ f (sfrac s (m * up e) (down e) (down-pos e) +ᶠ sfrac t (n * up d) (down d) (down-pos d)) r) (sym (S .is))
-    (rounds⁺-same E (round-rounds⁺ f (S .r) (S .d) (down e * down d) C (within-same (sym≈ E) w) (u .0) (u .1)))
+    subst (λ (r : Float). Rounds f (natᶠ 0) (signedᶠ s (m * up e) (down e) (down-pos e) +ᶠ signedᶠ t (n * up d) (down d) (down-pos d)) r) (sym (S .is))
+    (rounds-same E (round-rounds-units f (S .r) (S .d) (down e * down d) C (within-same (sym≈ E) w) (u .0) (u .1)))
 
 -- ---- the difference
 pub val-neg : (y : Float) → val (Ieee.neg y) ≈ᶠ negᶠ (val y)
@@ -147,21 +139,21 @@ finite-neg (fin s m e) p = tt
 pub minus-is : (x y z : Fraction) → z ≈ᶠ negᶠ y → x +ᶠ z ≈ᶠ x -ᶠ y
 minus-is x y z h = over (x ∷ y ∷ z ∷ []) (λ N n X Y Z. eq-at N (add-at N X Z) (sub-at N X Y) n (omega (arith, at-eq N Z (neg-at N Y) h)))
 
-pub sub-rounds : (f : Format) (x y : Float) → T (finite x) → T (finite y) → T (fits f x) → T (fits f y) → Within (val x -ᶠ val y) (natᶠ (2 ^ emax f)) → Rounds⁺ f (val x -ᶠ val y) (sub f x y)
+pub sub-rounds : (f : Format) (x y : Float) → T (finite x) → T (finite y) → T (fits f x) → T (fits f y) → Within (val x -ᶠ val y) (natᶠ (2 ^ emax f)) → Rounds f (natᶠ 0) (val x -ᶠ val y) (sub f x y)
 unfolding sub
 sub-rounds f x y p q g h w =
     let E = minus-is (val x) (val y) (val (Ieee.neg y)) (val-neg y) in
-    rounds⁺-same E (add-rounds f x (Ieee.neg y) p (finite-neg y q) g (neg-fits f y h) (within-same (sym≈ E) w))
+    rounds-same E (add-rounds f x (Ieee.neg y) p (finite-neg y q) g (neg-fits f y h) (within-same (sym≈ E) w))
 
 -- ---- the product
-pub product : (s : Bool) (a c : ℕ) (C : 0 < c) (t : Bool) (b d : ℕ) (D : 0 < d) → sfrac (unlike s t) (a * b) (c * d) (mul-pos C D) ≈ᶠ sfrac s a c C *ᶠ sfrac t b d D
+pub product : (s : Bool) (a c : ℕ) (C : 0 < c) (t : Bool) (b d : ℕ) (D : 0 < d) → signedᶠ (unlike s t) (a * b) (c * d) (mul-pos C D) ≈ᶠ signedᶠ s a c C *ᶠ signedᶠ t b d D
 unfolding _*ᶠ_
 product true a c C true b d D = record { eq = omega arith }
 product true a c C false b d D = record { eq = omega arith }
 product false a c C true b d D = record { eq = omega arith }
 product false a c C false b d D = record { eq = omega arith }
 
-pub mul-rounds : (f : Format) (x y : Float) → T (finite x) → T (finite y) → Within (val x *ᶠ val y) (natᶠ (2 ^ emax f)) → Rounds f (val x *ᶠ val y) (mul f x y)
+pub mul-rounds : (f : Format) (x y : Float) → T (finite x) → T (finite y) → Within (val x *ᶠ val y) (natᶠ (2 ^ emax f)) → Rounds f (tiny f) (val x *ᶠ val y) (mul f x y)
 unfolding mul val
 mul-rounds f nan y p q w = absurd p
 mul-rounds f (inf s) y p q w = absurd p
@@ -172,14 +164,14 @@ mul-rounds f (fin s m e) (fin t n d) p q w =
     rounds-same E (round-rounds f (unlike s t) (m * up e * (n * up d)) (down e * down d) (mul-pos (down-pos e) (down-pos d)) (within-same (sym≈ E) w))
 
 -- ---- the quotient: X is x / y where X * y is x
-quotient : (X : Fraction) (s : Bool) (a c : ℕ) (C : 0 < c) (t : Bool) (b d : ℕ) (D : 0 < d) (B : 0 < b * c) → X *ᶠ sfrac t b d D ≈ᶠ sfrac s a c C → sfrac (unlike s t) (a * d) (b * c) B ≈ᶠ X
+quotient : (X : Fraction) (s : Bool) (a c : ℕ) (C : 0 < c) (t : Bool) (b d : ℕ) (D : 0 < d) (B : 0 < b * c) → X *ᶠ signedᶠ t b d D ≈ᶠ signedᶠ s a c C → signedᶠ (unlike s t) (a * d) (b * c) B ≈ᶠ X
 unfolding _*ᶠ_
 quotient X true a c C true b d D B h = record { eq = omega (arith, h .eq) }
 quotient X true a c C false b d D B h = record { eq = omega (arith, h .eq) }
 quotient X false a c C true b d D B h = record { eq = omega (arith, h .eq) }
 quotient X false a c C false b d D B h = record { eq = omega (arith, h .eq) }
 
-pub div-rounds : (f : Format) (x y : Float) (X : Fraction) → T (finite x) → T (finite y) → ¬ (val y ≈ᶠ natᶠ 0) → X *ᶠ val y ≈ᶠ val x → Within X (natᶠ (2 ^ emax f)) → Rounds f X (div f x y)
+pub div-rounds : (f : Format) (x y : Float) (X : Fraction) → T (finite x) → T (finite y) → ¬ (val y ≈ᶠ natᶠ 0) → X *ᶠ val y ≈ᶠ val x → Within X (natᶠ (2 ^ emax f)) → Rounds f (tiny f) X (div f x y)
 unfolding div val
 div-rounds f nan y X p q z h w = absurd p
 div-rounds f (inf s) y X p q z h w = absurd p
