@@ -1,0 +1,6 @@
+-- What the proofs of several functions cite.
+pub mod Bits
+pub mod Marks
+pub mod Mapped
+pub mod Adding
+pub mod Clip

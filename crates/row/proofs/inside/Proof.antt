@@ -1,0 +1,62 @@
+-- `row::inside` meets its contract: its two columns are below 8,192. Assumes nothing.
+use mathlib.Core.Path.{sym, subst}
+use Prim.Native.Nat.{ℕ, _≤_}
+use native.Mathlib.Omega.{arith}
+use lib.Ieee.Casts.{toUnsigned-lt}
+use Rattle.row.proofs.Adding.{ceil-le, inside-single, inside-across}
+use borrow.Author.Needs.{needs}
+use Rattle.row.proofs.inside.Statement.{statement}
+use Rattle.row.proofs.inside.Tie as tie
+
+to-column-requires : tie.Need-to-column-requires
+to-column-requires c κs = search needs
+
+ceil-column-requires : tie.Need-ceil-column-requires
+ceil-column-requires c κs = search needs
+
+add-if1 : tie.Need-add-if1
+add-if1 c = omega (arith, toUnsigned-lt 13 (c .before .before .before .before .args .lo))
+
+from-whole-requires : tie.Need-from-whole-requires
+from-whole-requires c κs = omega (arith, toUnsigned-lt 13 (c .before .before .before .before .before .before .before .args .lo))
+
+single-requires : tie.Need-single-requires
+single-requires c κs = (c .before .before .before .before .before .before .before .before .pre, omega (arith, toUnsigned-lt 13 (c .before .before .before .before .before .before .before .before .args .lo)))
+
+across-requires : tie.Need-across-requires
+across-requires c κs = (c .before .before .before .before .before .before .before .pre, (c .before .before .if1 .left, subst (λ (n : ℕ). n ≤ 8192) (sym (c .before .before .before .ceil-column .ensures)) (ceil-le (c .before .before .before .before .before .before .before .args .hi))))
+
+same-length : tie.Need-same-length
+same-length c = search needs
+
+same-length-2 : tie.Need-same-length-2
+same-length-2 c = search needs
+
+returns : tie.Need-returns
+returns c = (inside-single (c .before .before .before .before .before .before .before .before .before .before .before .before .before .args .cells .now) (c .before .before .before .before .single .last .0) (c .before .before .before .before .before .before .before .before .before .before .before .before .before .args .lo) (c .before .before .before .before .before .before .before .before .before .before .before .before .before .args .hi) (c .before .before .before .before .before .before .before .before .before .before .before .before .before .args .area) (c .before .before .before .before .before .from-whole .result) (c .before .before .before .before .before .before .before .before .before .before .to-column .result) (c .before .before .before .before .before .before .before .before .before .ceil-column .result) (c .before .before .before .before .before .before .before .before .before .before .to-column .ensures) (c .before .before .before .before .before .before .before .before .before .ceil-column .ensures) (c .before .before .before .before .before .before .before .before .if1 .taken) (c .before .before .before .before .before .from-whole .ensures) (c .before .before .before .before .single .ensures .0), search needs)
+
+same-length-3 : tie.Need-same-length-3
+same-length-3 c = search needs
+
+same-length-4 : tie.Need-same-length-4
+same-length-4 c = search needs
+
+returns-2 : tie.Need-returns-2
+returns-2 c = (inside-across (c .before .before .before .before .before .before .before .before .before .before .before .before .args .cells .now) (c .before .before .before .before .across .last .0) (c .before .before .before .before .before .before .before .before .before .before .before .before .args .lo) (c .before .before .before .before .before .before .before .before .before .before .before .before .args .hi) (c .before .before .before .before .before .before .before .before .before .before .before .before .args .area) (c .before .before .before .before .before .before .before .before .before .to-column .result) (c .before .before .before .before .before .before .before .before .ceil-column .result) (c .before .before .before .before .before .before .before .before .before .to-column .ensures) (c .before .before .before .before .before .before .before .before .ceil-column .ensures) (c .before .before .before .before .before .before .before .if1 .left) (c .before .before .before .before .across .ensures .0), search needs)
+
+pub inside-spec : {M : Type 1} → statement M
+inside-spec =
+    tie.close
+    (tie.spec
+    to-column-requires
+    ceil-column-requires
+    add-if1
+    from-whole-requires
+    single-requires
+    across-requires
+    same-length
+    same-length-2
+    returns
+    same-length-3
+    same-length-4
+    returns-2)
