@@ -55,7 +55,11 @@ right-end-requires : (t : ℕ) → span-lts.Need-right-end-requires (claims t) (
 right-end-requires t c κs = search needs
 
 returns : (t : ℕ) → span-lts.Need-returns (claims t) (span-at t) span.Post
-returns t c = (span-past (c .before .before .before .before .before .before .args .cells .now) (c .before .before .before .before .before .before .args .xa) (c .before .before .before .before .before .before .args .xb) (c .before .before .before .before .before .before .args .area) (c .before .before .before .from-whole .result) (c .before .before .left-end .result) (c .before .right-end .result) (c .before .before .before .from-whole .ensures) (c .before .before .left-end .ensures) (c .before .right-end .ensures) (c .if1 .taken), c .before .before .before .before .before .before .pre .1)
+returns t c =
+    let args = c .before .before .before .before .before .before .args in
+    let from-whole = c .before .before .before .from-whole in
+    let left-end = c .before .before .left-end in
+    (span-past (args .cells .now) (args .xa) (args .xb) (args .area) (from-whole .result) (left-end .result) (c .before .right-end .result) (from-whole .ensures) (left-end .ensures) (c .before .right-end .ensures) (c .if1 .taken), c .before .before .before .before .before .before .pre .1)
 
 add-requires : (t : ℕ) → span-lts.Need-add-requires (claims t) (span-at t) span.Post
 add-requires t c κs = c .before .before .before .before .before .before .before .before .before .pre .1
@@ -67,13 +71,25 @@ same-length-2 : (t : ℕ) → span-lts.Need-same-length-2 (claims t) (span-at t)
 same-length-2 t c = search needs
 
 returns-2 : (t : ℕ) → span-lts.Need-returns-2 (claims t) (span-at t) span.Post
-returns-2 t c = (c .before .before .before .before .add .ensures .0 ∙ span-before (c .before .before .before .before .before .before .before .before .before .before .before .before .before .before .args .cells .now) (c .before .before .before .before .before .before .before .before .before .before .before .before .before .before .args .xa) (c .before .before .before .before .before .before .before .before .before .before .before .before .before .before .args .xb) (c .before .before .before .before .before .before .before .before .before .before .before .before .before .before .args .area) (c .before .before .before .before .before .before .before .before .before .before .before .from-whole .result) (c .before .before .before .before .before .before .before .before .before .before .left-end .result) (c .before .before .before .before .before .before .before .before .before .right-end .result) (c .before .before .before .before .before .before .before .before .before .before .before .from-whole .ensures) (c .before .before .before .before .before .before .before .before .before .before .left-end .ensures) (c .before .before .before .before .before .before .before .before .before .right-end .ensures) (c .before .before .before .before .before .before .before .before .if1 .left) (c .before .before .before .before .before .before .before .if2 .taken), c .before .before .before .before .add .ensures .1)
+returns-2 t c =
+    let add = c .before .before .before .before .add in
+    let args = c .before .before .before .before .before .before .before .before .before .before .before .before .before .before .args in
+    let from-whole = c .before .before .before .before .before .before .before .before .before .before .before .from-whole in
+    let left-end = c .before .before .before .before .before .before .before .before .before .before .left-end in
+    let right-end = c .before .before .before .before .before .before .before .before .before .right-end in
+    (add .ensures .0 ∙ span-before (args .cells .now) (args .xa) (args .xb) (args .area) (from-whole .result) (left-end .result) (right-end .result) (from-whole .ensures) (left-end .ensures) (right-end .ensures) (c .before .before .before .before .before .before .before .before .if1 .left) (c .before .before .before .before .before .before .before .if2 .taken), add .ensures .1)
 
 add-requires-2 : (t : ℕ) → span-lts.Need-add-requires-2 (claims t) (span-at t) span.Post
 add-requires-2 t c κs = c .before .before .before .before .before .before .before .before .before .before .pre .1
 
 span-requires : (t : ℕ) → span-lts.Need-span-requires (claims t) (span-at t) span.Post
-span-requires t c κs = (left-call (c .before .before .before .before .before .before .before .before .before .before .before .before .before .before .before .before .before .args .cells .now) (c .before .before .before .before .before .before .before .before .before .before .before .before .before .before .before .before .before .args .xa) (c .before .before .before .before .before .before .before .before .before .before .before .before .before .before .before .before .before .args .xb) (c .before .before .before .before .before .before .before .before .before .before .before .before .before .before .before .before .before .args .area) (c .before .before .before .before .before .before .before .before .before .before .before .before .before .before .from-whole .result) (c .before .before .before .before .before .before .before .before .before .before .before .before .before .left-end .result) (c .before .before .before .before .before .before .before .before .before .before .before .before .right-end .result) (c .before .before .before .before .before .before .before .before .before .before .before .before .before .before .from-whole .ensures) (c .before .before .before .before .before .before .before .before .before .before .before .before .before .left-end .ensures) (c .before .before .before .before .before .before .before .before .before .before .before .before .right-end .ensures) t (c .before .before .before .before .before .before .before .before .before .before .before .before .before .before .before .before .before .pre .0) (c .before .before .before .before .before .before .add2 .last .0) (c .before .before .before .before .before .before .add2 .kept .0) (c .before .before .before .before .before .before .before .before .before .if3 .taken), c .before .before .before .before .before .before .add2 .ensures .1)
+span-requires t c κs =
+    let args = c .before .before .before .before .before .before .before .before .before .before .before .before .before .before .before .before .before .args in
+    let from-whole = c .before .before .before .before .before .before .before .before .before .before .before .before .before .before .from-whole in
+    let left-end = c .before .before .before .before .before .before .before .before .before .before .before .before .before .left-end in
+    let right-end = c .before .before .before .before .before .before .before .before .before .before .before .before .right-end in
+    let add2 = c .before .before .before .before .before .before .add2 in
+    (left-call (args .cells .now) (args .xa) (args .xb) (args .area) (from-whole .result) (left-end .result) (right-end .result) (from-whole .ensures) (left-end .ensures) (right-end .ensures) t (c .before .before .before .before .before .before .before .before .before .before .before .before .before .before .before .before .before .pre .0) (add2 .last .0) (add2 .kept .0) (c .before .before .before .before .before .before .before .before .before .if3 .taken), add2 .ensures .1)
 
 same-length-3 : (t : ℕ) → span-lts.Need-same-length-3 (claims t) (span-at t) span.Post
 same-length-3 t c = search needs
@@ -82,10 +98,23 @@ same-length-4 : (t : ℕ) → span-lts.Need-same-length-4 (claims t) (span-at t)
 same-length-4 t c = search needs
 
 returns-3 : (t : ℕ) → span-lts.Need-returns-3 (claims t) (span-at t) span.Post
-returns-3 t c = (c .before .before .before .before .span .ensures .0 ∙ span-left (c .before .before .before .before .before .before .before .before .before .before .before .before .before .before .before .before .before .before .before .before .before .before .args .cells .now) (c .before .before .before .before .before .before .before .before .before .before .before .before .before .before .before .before .before .before .before .before .before .before .args .xa) (c .before .before .before .before .before .before .before .before .before .before .before .before .before .before .before .before .before .before .before .before .before .before .args .xb) (c .before .before .before .before .before .before .before .before .before .before .before .before .before .before .before .before .before .before .before .before .before .before .args .area) (c .before .before .before .before .before .before .before .before .before .before .before .before .before .before .before .before .before .before .before .from-whole .result) (c .before .before .before .before .before .before .before .before .before .before .before .before .before .before .before .before .before .before .left-end .result) (c .before .before .before .before .before .before .before .before .before .before .before .before .before .before .before .before .before .right-end .result) (c .before .before .before .before .before .before .before .before .before .before .before .before .before .before .before .before .before .before .before .from-whole .ensures) (c .before .before .before .before .before .before .before .before .before .before .before .before .before .before .before .before .before .before .left-end .ensures) (c .before .before .before .before .before .before .before .before .before .before .before .before .before .before .before .before .before .right-end .ensures) (c .before .before .before .before .before .before .before .before .before .before .before .before .before .before .before .before .if1 .left) (c .before .before .before .before .before .before .before .before .before .before .before .before .before .before .before .if2 .left) (c .before .before .before .before .before .before .before .before .before .before .before .before .before .before .if3 .taken) (c .before .before .before .before .before .before .before .before .before .before .before .add2 .last .0) (c .before .before .before .before .before .before .before .before .before .before .before .add2 .ensures .0), c .before .before .before .before .span .ensures .1)
+returns-3 t c =
+    let span = c .before .before .before .before .span in
+    let args = c .before .before .before .before .before .before .before .before .before .before .before .before .before .before .before .before .before .before .before .before .before .before .args in
+    let from-whole = c .before .before .before .before .before .before .before .before .before .before .before .before .before .before .before .before .before .before .before .from-whole in
+    let left-end = c .before .before .before .before .before .before .before .before .before .before .before .before .before .before .before .before .before .before .left-end in
+    let right-end = c .before .before .before .before .before .before .before .before .before .before .before .before .before .before .before .before .before .right-end in
+    let add2 = c .before .before .before .before .before .before .before .before .before .before .before .add2 in
+    (span .ensures .0 ∙ span-left (args .cells .now) (args .xa) (args .xb) (args .area) (from-whole .result) (left-end .result) (right-end .result) (from-whole .ensures) (left-end .ensures) (right-end .ensures) (c .before .before .before .before .before .before .before .before .before .before .before .before .before .before .before .before .if1 .left) (c .before .before .before .before .before .before .before .before .before .before .before .before .before .before .before .if2 .left) (c .before .before .before .before .before .before .before .before .before .before .before .before .before .before .if3 .taken) (add2 .last .0) (add2 .ensures .0), span .ensures .1)
 
 span-requires-2 : (t : ℕ) → span-lts.Need-span-requires-2 (claims t) (span-at t) span.Post
-span-requires-2 t c κs = (right-call (c .before .before .before .before .before .before .before .before .before .before .before .args .cells .now) (c .before .before .before .before .before .before .before .before .before .before .before .args .xa) (c .before .before .before .before .before .before .before .before .before .before .before .args .xb) (c .before .before .before .before .before .before .before .before .before .before .before .args .area) (c .before .before .before .before .before .before .before .before .from-whole .result) (c .before .before .before .before .before .before .before .left-end .result) (c .before .before .before .before .before .before .right-end .result) (c .before .before .before .before .before .before .before .before .from-whole .ensures) (c .before .before .before .before .before .before .before .left-end .ensures) (c .before .before .before .before .before .before .right-end .ensures) t (c .before .before .before .before .before .before .before .before .before .before .before .pre .0) (c .before .before .if4 .taken), c .before .before .before .before .before .before .before .before .before .before .before .pre .1)
+span-requires-2 t c κs =
+    let args = c .before .before .before .before .before .before .before .before .before .before .before .args in
+    let from-whole = c .before .before .before .before .before .before .before .before .from-whole in
+    let left-end = c .before .before .before .before .before .before .before .left-end in
+    let right-end = c .before .before .before .before .before .before .right-end in
+    let pre = c .before .before .before .before .before .before .before .before .before .before .before .pre in
+    (right-call (args .cells .now) (args .xa) (args .xb) (args .area) (from-whole .result) (left-end .result) (right-end .result) (from-whole .ensures) (left-end .ensures) (right-end .ensures) t (pre .0) (c .before .before .if4 .taken), pre .1)
 
 same-length-5 : (t : ℕ) → span-lts.Need-same-length-5 (claims t) (span-at t) span.Post
 same-length-5 t c = search needs
@@ -94,7 +123,13 @@ same-length-6 : (t : ℕ) → span-lts.Need-same-length-6 (claims t) (span-at t)
 same-length-6 t c = search needs
 
 returns-4 : (t : ℕ) → span-lts.Need-returns-4 (claims t) (span-at t) span.Post
-returns-4 t c = (c .before .before .before .before .span2 .ensures .0 ∙ span-right (c .before .before .before .before .before .before .before .before .before .before .before .before .before .before .before .before .args .cells .now) (c .before .before .before .before .before .before .before .before .before .before .before .before .before .before .before .before .args .xa) (c .before .before .before .before .before .before .before .before .before .before .before .before .before .before .before .before .args .xb) (c .before .before .before .before .before .before .before .before .before .before .before .before .before .before .before .before .args .area) (c .before .before .before .before .before .before .before .before .before .before .before .before .before .from-whole .result) (c .before .before .before .before .before .before .before .before .before .before .before .before .left-end .result) (c .before .before .before .before .before .before .before .before .before .before .before .right-end .result) (c .before .before .before .before .before .before .before .before .before .before .before .before .before .from-whole .ensures) (c .before .before .before .before .before .before .before .before .before .before .before .before .left-end .ensures) (c .before .before .before .before .before .before .before .before .before .before .before .right-end .ensures) (c .before .before .before .before .before .before .before .before .before .before .if1 .left) (c .before .before .before .before .before .before .before .before .before .if2 .left) (c .before .before .before .before .before .before .before .before .if3 .left) (c .before .before .before .before .before .before .before .if4 .taken), c .before .before .before .before .span2 .ensures .1)
+returns-4 t c =
+    let span2 = c .before .before .before .before .span2 in
+    let args = c .before .before .before .before .before .before .before .before .before .before .before .before .before .before .before .before .args in
+    let from-whole = c .before .before .before .before .before .before .before .before .before .before .before .before .before .from-whole in
+    let left-end = c .before .before .before .before .before .before .before .before .before .before .before .before .left-end in
+    let right-end = c .before .before .before .before .before .before .before .before .before .before .before .right-end in
+    (span2 .ensures .0 ∙ span-right (args .cells .now) (args .xa) (args .xb) (args .area) (from-whole .result) (left-end .result) (right-end .result) (from-whole .ensures) (left-end .ensures) (right-end .ensures) (c .before .before .before .before .before .before .before .before .before .before .if1 .left) (c .before .before .before .before .before .before .before .before .before .if2 .left) (c .before .before .before .before .before .before .before .before .if3 .left) (c .before .before .before .before .before .before .before .if4 .taken), span2 .ensures .1)
 
 inside-requires : (t : ℕ) → span-lts.Need-inside-requires (claims t) (span-at t) span.Post
 inside-requires t c κs = c .before .before .before .before .before .before .before .before .before .before .before .pre .1
@@ -106,7 +141,13 @@ same-length-8 : (t : ℕ) → span-lts.Need-same-length-8 (claims t) (span-at t)
 same-length-8 t c = search needs
 
 returns-5 : (t : ℕ) → span-lts.Need-returns-5 (claims t) (span-at t) span.Post
-returns-5 t c = (c .before .before .before .before .inside .ensures .0 ∙ span-inside (c .before .before .before .before .before .before .before .before .before .before .before .before .before .before .before .before .args .cells .now) (c .before .before .before .before .before .before .before .before .before .before .before .before .before .before .before .before .args .xa) (c .before .before .before .before .before .before .before .before .before .before .before .before .before .before .before .before .args .xb) (c .before .before .before .before .before .before .before .before .before .before .before .before .before .before .before .before .args .area) (c .before .before .before .before .before .before .before .before .before .before .before .before .before .from-whole .result) (c .before .before .before .before .before .before .before .before .before .before .before .before .left-end .result) (c .before .before .before .before .before .before .before .before .before .before .before .right-end .result) (c .before .before .before .before .before .before .before .before .before .before .before .before .before .from-whole .ensures) (c .before .before .before .before .before .before .before .before .before .before .before .before .left-end .ensures) (c .before .before .before .before .before .before .before .before .before .before .before .right-end .ensures) (c .before .before .before .before .before .before .before .before .before .before .if1 .left) (c .before .before .before .before .before .before .before .before .before .if2 .left) (c .before .before .before .before .before .before .before .before .if3 .left) (c .before .before .before .before .before .before .before .if4 .left), c .before .before .before .before .inside .ensures .1)
+returns-5 t c =
+    let inside = c .before .before .before .before .inside in
+    let args = c .before .before .before .before .before .before .before .before .before .before .before .before .before .before .before .before .args in
+    let from-whole = c .before .before .before .before .before .before .before .before .before .before .before .before .before .from-whole in
+    let left-end = c .before .before .before .before .before .before .before .before .before .before .before .before .left-end in
+    let right-end = c .before .before .before .before .before .before .before .before .before .before .before .right-end in
+    (inside .ensures .0 ∙ span-inside (args .cells .now) (args .xa) (args .xb) (args .area) (from-whole .result) (left-end .result) (right-end .result) (from-whole .ensures) (left-end .ensures) (right-end .ensures) (c .before .before .before .before .before .before .before .before .before .before .if1 .left) (c .before .before .before .before .before .before .before .before .before .if2 .left) (c .before .before .before .before .before .before .before .before .if3 .left) (c .before .before .before .before .before .before .before .if4 .left), inside .ensures .1)
 
 pub +span-spec : {M : Type 1} → statement M
 +span-spec =

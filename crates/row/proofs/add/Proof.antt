@@ -30,8 +30,9 @@ same-length-2 c = search needs
 
 returns : tie.Need-returns
 returns c =
+    let mark = c .before .before .mark in
     let a = c .before .before .before .before .before .before .before .before .before .args in
-    (add-in (a .cells .now) (a .cell) (a .area) (c .before .before .before .before .before .before .if1 .taken) (c .before .before .before .before .before .if2 .taken), ready-marked (a .cells .now) _ (a .touched .now) (c .before .before .mark .last .0) (a .cell) _ (c .before .before .before .before .before .before .before .before .before .pre) (c .before .before .mark .ensures) (length-set (a .cells .now) (a .cell) _) (set-apart (a .cells .now) (a .cell) _))
+    (add-in (a .cells .now) (a .cell) (a .area) (c .before .before .before .before .before .before .if1 .taken) (c .before .before .before .before .before .if2 .taken), ready-marked (a .cells .now) _ (a .touched .now) (mark .last .0) (a .cell) _ (c .before .before .before .before .before .before .before .before .before .pre) (mark .ensures) (length-set (a .cells .now) (a .cell) _) (set-apart (a .cells .now) (a .cell) _))
 
 returns-2 : tie.Need-returns-2
 returns-2 c = (add-none (c .before .before .before .before .args .cells .now) _ _ (c .if2 .left), c .before .before .before .before .pre)

@@ -44,25 +44,32 @@ same-length-2 c = search needs
 
 returns : tie.Need-returns
 returns c =
+    let least = c .before .before .before .before .before .before .before .before .before .before .least in
+    let raise = c .before .before .before .before .before .before .raise in
+    let mark-run = c .before .before .mark-run in
     let a = c .before .before .before .before .before .before .before .before .before .before .before .before .before .args in
-    let n = c .before .before .before .before .before .before .before .before .before .before .least .result in
-    let e : n ≡ min (a .to) (length (a .cells .now)) = c .before .before .before .before .before .before .before .before .before .before .least .ensures in
-    let ys = c .before .before .before .before .before .before .raise .last .0 in
-    let k : length ys ≡ n - a .from = c .before .before .before .before .before .before .raise .kept .0 ∙ simp (length-take, length-drop) (omega arith) in
+    let n = least .result in
+    let e : n ≡ min (a .to) (length (a .cells .now)) = least .ensures in
+    let ys = raise .last .0 in
+    let k : length ys ≡ n - a .from = raise .kept .0 ∙ simp (length-take, length-drop) (omega arith) in
     let h : a .from < n = c .before .before .before .before .before .before .before .before .before .if1 .taken in
     let f : a .from + (n - a .from) ≡ n = omega arith in (
-      ap (putMid (a .from) (n - a .from) (a .cells .now)) (c .before .before .before .before .before .before .raise .ensures)
+      ap (putMid (a .from) (n - a .from) (a .cells .now)) (raise .ensures)
           ∙ subst (λ (x : ℕ). a .from < x → putMid (a .from) (x - a .from) (a .cells .now) (map (λ (y : Float). y ⊕ a .area) (take (x - a .from) (drop (a .from) (a .cells .now)))) ≡ evenlyOf (a .to - a .from) (a .cells .now) (a .from) (a .area)) (sym e)
           (λ g. evenly-run (a .cells .now) (a .from) (a .to) (a .area) g (c .before .before .before .before .before .before .before .before .if2 .taken)) h,
-      ready-marked (a .cells .now) _ (a .touched .now) (c .before .before .mark-run .last .0) (a .from) n (c .before .before .before .before .before .before .before .before .before .before .before .before .before .pre) (c .before .before .mark-run .ensures) (same-len-mid (a .from) (n - a .from) (a .cells .now) ys (c .before .before .before .before .before .before .raise .kept .0))
+      ready-marked (a .cells .now) _ (a .touched .now) (mark-run .last .0) (a .from) n (c .before .before .before .before .before .before .before .before .before .before .before .before .before .pre) (mark-run .ensures) (same-len-mid (a .from) (n - a .from) (a .cells .now) ys (raise .kept .0))
           (λ i o. part-apart (a .cells .now) ys (a .from) (n - a .from) i (omega arith) k (subst (λ (x : ℕ). (i < a .from) ⊎ (x ≤ i)) (sym f) o)),
     )
 
 returns-2 : tie.Need-returns-2
-returns-2 c = (evenly-zero (c .before .before .before .before .before .args .cells .now) (c .before .before .before .before .before .args .from) (c .before .before .before .before .before .args .to) (c .before .before .before .before .before .args .area) (c .if2 .left), c .before .before .before .before .before .pre)
+returns-2 c =
+    let args = c .before .before .before .before .before .args in
+    (evenly-zero (args .cells .now) (args .from) (args .to) (args .area) (c .if2 .left), c .before .before .before .before .before .pre)
 
 returns-3 : tie.Need-returns-3
-returns-3 c = (evenly-beyond (c .before .before .before .before .args .cells .now) (c .before .before .before .before .args .from) (c .before .before .before .before .args .to) (c .before .before .before .before .args .area) (omega (arith, c .before .least .ensures)), c .before .before .before .before .pre)
+returns-3 c =
+    let args = c .before .before .before .before .args in
+    (evenly-beyond (args .cells .now) (args .from) (args .to) (args .area) (omega (arith, c .before .least .ensures)), c .before .before .before .before .pre)
 
 pub evenly-spec : {M : Type 1} → statement M
 evenly-spec =

@@ -33,7 +33,13 @@ same-length-2 : tie.Need-same-length-2
 same-length-2 c = search needs
 
 returns : tie.Need-returns
-returns c = (inside-single (c .before .before .before .before .before .before .before .before .before .before .before .before .before .args .cells .now) (c .before .before .before .before .single .last .0) (c .before .before .before .before .before .before .before .before .before .before .before .before .before .args .lo) (c .before .before .before .before .before .before .before .before .before .before .before .before .before .args .hi) (c .before .before .before .before .before .before .before .before .before .before .before .before .before .args .area) (c .before .before .before .before .before .from-whole .result) (c .before .before .before .before .before .before .before .before .before .before .to-column .result) (c .before .before .before .before .before .before .before .before .before .ceil-column .result) (c .before .before .before .before .before .before .before .before .before .before .to-column .ensures) (c .before .before .before .before .before .before .before .before .before .ceil-column .ensures) (c .before .before .before .before .before .before .before .before .if1 .taken) (c .before .before .before .before .before .from-whole .ensures) (c .before .before .before .before .single .ensures .0), search needs)
+returns c =
+    let args = c .before .before .before .before .before .before .before .before .before .before .before .before .before .args in
+    let single = c .before .before .before .before .single in
+    let from-whole = c .before .before .before .before .before .from-whole in
+    let to-column = c .before .before .before .before .before .before .before .before .before .before .to-column in
+    let ceil-column = c .before .before .before .before .before .before .before .before .before .ceil-column in
+    (inside-single (args .cells .now) (single .last .0) (args .lo) (args .hi) (args .area) (from-whole .result) (to-column .result) (ceil-column .result) (to-column .ensures) (ceil-column .ensures) (c .before .before .before .before .before .before .before .before .if1 .taken) (from-whole .ensures) (single .ensures .0), search needs)
 
 same-length-3 : tie.Need-same-length-3
 same-length-3 c = search needs
@@ -42,7 +48,12 @@ same-length-4 : tie.Need-same-length-4
 same-length-4 c = search needs
 
 returns-2 : tie.Need-returns-2
-returns-2 c = (inside-across (c .before .before .before .before .before .before .before .before .before .before .before .before .args .cells .now) (c .before .before .before .before .across .last .0) (c .before .before .before .before .before .before .before .before .before .before .before .before .args .lo) (c .before .before .before .before .before .before .before .before .before .before .before .before .args .hi) (c .before .before .before .before .before .before .before .before .before .before .before .before .args .area) (c .before .before .before .before .before .before .before .before .before .to-column .result) (c .before .before .before .before .before .before .before .before .ceil-column .result) (c .before .before .before .before .before .before .before .before .before .to-column .ensures) (c .before .before .before .before .before .before .before .before .ceil-column .ensures) (c .before .before .before .before .before .before .before .if1 .left) (c .before .before .before .before .across .ensures .0), search needs)
+returns-2 c =
+    let args = c .before .before .before .before .before .before .before .before .before .before .before .before .args in
+    let across = c .before .before .before .before .across in
+    let to-column = c .before .before .before .before .before .before .before .before .before .to-column in
+    let ceil-column = c .before .before .before .before .before .before .before .before .ceil-column in
+    (inside-across (args .cells .now) (across .last .0) (args .lo) (args .hi) (args .area) (to-column .result) (ceil-column .result) (to-column .ensures) (ceil-column .ensures) (c .before .before .before .before .before .before .before .if1 .left) (across .ensures .0), search needs)
 
 pub inside-spec : {M : Type 1} → statement M
 inside-spec =

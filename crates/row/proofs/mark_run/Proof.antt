@@ -38,9 +38,11 @@ loop-less c = search needs
 
 loop-again : tie.Need-loop-again Inv-loop μ-loop
 loop-again c =
+    let least = c .before .before .before .before .least in
+    let mark = c .before .before .mark in
     let l = c .before .before .before .before .before .before .loop in
-    let e : l .at + (c .before .before .before .before .least .result - l .at) ≡ c .before .before .before .before .least .result = omega arith in
-    (search needs, marked-more (c .before .before .before .before .before .before .before .before .args .from) (l .at) (c .before .before .before .before .least .result) (l .inv .1) (subst (λ (n : ℕ). Marked (l .touched) (c .before .before .mark .last .0) (l .at) n) e (c .before .before .mark .ensures)))
+    let e : l .at + (least .result - l .at) ≡ least .result = omega arith in
+    (search needs, marked-more (c .before .before .before .before .before .before .before .before .args .from) (l .at) (least .result) (l .inv .1) (subst (λ (n : ℕ). Marked (l .touched) (mark .last .0) (l .at) n) e (mark .ensures)))
 
 same-length : tie.Need-same-length Inv-loop μ-loop
 same-length c = search needs

@@ -40,9 +40,10 @@ loop-less c = search needs
 
 loop-again : tie.Need-loop-again Inv-loop μ-loop
 loop-again c =
+    let args = c .before .before .before .args in
     let l = c .before .before .loop in
-    let d = c .before .before .before .args .cells .now in
-    let f : Float → Float = λ x. x ⊕ c .before .before .before .args .area in
+    let d = args .cells .now in
+    let f : Float → Float = λ x. x ⊕ args .area in
     let h : l .i < length d = omega arith in
     let e : getD (l .cells) (l .i) nan ≡ getD d (l .i) nan = ap (λ (x : List Float). getD x (l .i) nan) (l .inv .2) ∙ mapped-at f nan (l .i) d h in
     (omega arith, simp length-set (l .inv .1), rw (e, l .inv .2) (mapped-more f nan (l .i) d h))
@@ -51,7 +52,9 @@ same-length : tie.Need-same-length Inv-loop μ-loop
 same-length c = search needs
 
 returns : tie.Need-returns Inv-loop μ-loop
-returns c = c .before .loop .inv .2 ∙ mapped-all (λ (x : Float). x ⊕ c .before .before .args .area) (c .before .loop .i) (c .before .before .args .cells .now) (omega arith)
+returns c =
+    let args = c .before .before .args in
+    c .before .loop .inv .2 ∙ mapped-all (λ (x : Float). x ⊕ args .area) (c .before .loop .i) (args .cells .now) (omega arith)
 
 pub raise-spec : {M : Type 1} → statement M
 raise-spec =
