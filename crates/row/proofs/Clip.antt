@@ -1,7 +1,6 @@
 -- How many ends of a piece lie outside the row, and that one fewer does once an end is clipped: so three calls of `span` are enough for every piece. Assumes nothing.
 use mathlib.Core.Path.{_≡_, refl, sym, ap, ap₂, _∙_}
-use mathlib.Core.Bool.{Bool, true, false, not, cond, _||_, _&&_}
-use mathlib.Core.List.{List}
+use mathlib.Core.Bool.{Bool, true, false, cond, _||_}
 use Prim.Native.Nat.{ℕ, zero, suc, _+_, _-_, _*_, _/_, _%_, _^_, _<_, _≤_, compare}
 use native.Mathlib.Nat.{add-comm}
 use native.Mathlib.Omega.{arith}

@@ -4,3 +4,4 @@ pub mod Marks
 pub mod Mapped
 pub mod Adding
 pub mod Clip
+pub mod Floor

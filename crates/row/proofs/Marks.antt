@@ -1,17 +1,17 @@
 -- Marks: what `mark` stores, runs of marks one after another, and a row whose cells changed only where they were marked. Assumes nothing.
-use mathlib.Core.Path.{_≡_, refl, sym, ap, _∙_, subst}
+use mathlib.Core.Path.{_≡_, refl, sym, ap, _∙_}
 use mathlib.Core.Logic.{_≢_, _⊎_, inl, inr}
 use mathlib.Core.List.{List}
-use Prim.Native.Nat.{ℕ, _+_, _*_, _-_, _/_, _%_, _^_, _≤_, _<_}
+use Prim.Native.Nat.{ℕ, _+_, _*_, _/_, _%_, _^_, _≤_, _<_}
 use native.Mathlib.Omega.{arith}
 use native.Mathlib.Decide.{ℕ-discrete, decLt}
 use lib.Bits.{bitOr}
 use lib.ListN.{length, getD, set, length-set}
 use lib.Seq.{getD-set-same, getD-set-other}
-use lib.Ieee.{Float, nan}
+use lib.Ieee.{nan}
 use Rattle.float.specs.Ops.{f0}
 use Rattle.row.specs.Row.{Cells}
-use Rattle.row.specs.Marks.{bitOf, Clear, WordClear, Summed, Ready, Marked}
+use Rattle.row.specs.Marks.{bitOf, Clear, Summed, Ready, Marked}
 use Rattle.row.proofs.Bits.{or-clear, one-bit, own-bit, onesAt, ones-set}
 
 -- ---- one word

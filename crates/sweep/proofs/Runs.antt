@@ -1,6 +1,6 @@
 -- A row that is summed in runs: cells that hold 0.0 get the byte of the winding before them, and a touched cell that of its own. Assumes nothing.
-use mathlib.Core.Path.{_≡_, refl, sym, ap, _∙_, subst}
-use mathlib.Core.Bool.{Bool, true, false, cond}
+use mathlib.Core.Path.{_≡_, refl, sym, ap, _∙_}
+use mathlib.Core.Bool.{Bool, true, false}
 use mathlib.Core.List.{List, [], _∷_, _++_, map, append-assoc, append-nil}
 use Prim.Native.Nat.{ℕ, zero, suc, _+_, _-_, _<_, _≤_, min}
 use native.Mathlib.Nat.{not-suc-le-zero, le-of-suc-le-suc, add-zero}
@@ -9,7 +9,7 @@ use native.Mathlib.Omega.{arith}
 use lib.Count.{trailingZeros}
 use lib.Dec.{T}
 use lib.ListN.{length, getD, set, take, drop, replicate, length-append, length-take, length-drop, length-map, length-set, drop-of-length-le, take-append-drop}
-use lib.Seq.{drop-cons, drop-drop, drop-set-lt, take-at, drop-at, take-length, take-all, take-suc-set}
+use lib.Seq.{drop-cons, drop-set-lt, take-at, drop-at, take-all, take-suc-set}
 use lib.Ieee.{Float, nan, binary32, fits, eq, lt, isNan, rem, mul, add, sub, sum, round, units, odd, size, span, climb, toUnsigned, ofBits, ofFields}
 use Rattle.float.specs.Ops.{f0, _⊕_}
 use Rattle.float.specs.Simple.{absOf, minOf}

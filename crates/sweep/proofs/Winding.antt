@@ -6,12 +6,11 @@ use Prim.Native.Nat.{ℕ, zero, suc, _+_, _-_, _*_, _/_, _%_, _^_, _≤_, _<_, c
 use native.Mathlib.Nat.{mul-one, one-mul, zero-mul, mul-comm, mul-assoc, mul-left-comm, mul-pos, zero-lt-suc, pow-suc, pow-succ', eq-of-mul-eq-mul-right, lt-of-mul-lt-mul-right, mul-lt-mul-of-pos-right, mul-le-mul-left, mul-le-mul-right, le-div-iff-mul-le, le-trans, add-mul}
 use native.Mathlib.Omega.{arith}
 use lib.IntN.{ℤ, pos, negsuc}
-use lib.Count.{trailingZeros}
 use lib.Dec.{T, eqb, ltb, leb, eqb→eq}
 use lib.Pow.{pow-add, pow-pos}
-use lib.Ieee.{Float, nan, inf, fin, Format, binary32, prec, emax, low, up, down, size, nearest, odd, units, round, sum, add, fits, ofBits}
+use lib.Ieee.{Float, nan, inf, fin, Format, binary32, prec, emax, low, up, down, nearest, odd, units, round, sum, add, fits, ofBits}
 use lib.Ieee.Exact.{HasValue, odd-sign}
-use lib.Ieee.Fits.{two, two-le-pos, up-pos, down-pos, and-l, and-r, round-is, round-fits, add-fits}
+use lib.Ieee.Fits.{two, two-le-pos, up-pos, down-pos, and-l, round-is, round-fits, add-fits}
 use lib.Ieee.Nearest.{nearest-ge}
 use lib.Ieee.Order.{drop}
 use borrow.Author.Tests.{ltb-true, lt-ltb, le-ltb}

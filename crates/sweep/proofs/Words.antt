@@ -1,5 +1,5 @@
 -- The touched cells of a row, by the words of its marks: what holds before each bit of a word, and before each word. Assumes nothing.
-use mathlib.Core.Path.{_≡_, refl, sym, ap, _∙_, subst}
+use mathlib.Core.Path.{_≡_, refl, sym, ap, _∙_}
 use mathlib.Core.Logic.{_≢_, _⊎_, inl, inr}
 use mathlib.Core.Bool.{Bool}
 use mathlib.Core.List.{List}
@@ -10,12 +10,12 @@ use native.Mathlib.Decide.{ℕ-discrete, decLt}
 use lib.Count.{trailingZeros, trailing-le}
 use lib.ListN.{length, getD, set, length-set, replicate, length-replicate, getD-replicate}
 use lib.Seq.{getD-set-same, getD-set-other, ext-getD}
-use lib.Ieee.{Float, nan}
+use lib.Ieee.{nan}
 use Rattle.float.specs.Ops.{f0}
 use Rattle.row.specs.Row.{Cells}
 use Rattle.row.specs.Marks.{bitOf, Clear, Ready}
 use Rattle.sweep.specs.declared.Run.{Run}
-use Rattle.sweep.specs.Sweeping.{Blank, lineFrom, Reached, Moved, Word, WordDone, WordsDone}
+use Rattle.sweep.specs.Sweeping.{Blank, Reached, Moved, Word, WordDone, WordsDone}
 use Rattle.sweep.proofs.Lowest.{rest, zero-bit, below-lowest, lowest-lt, rest-high, rest-above, rest-lt}
 
 pub back : (n : ℕ) → n + 1 - 1 ≡ n

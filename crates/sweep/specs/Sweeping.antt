@@ -4,8 +4,8 @@ use mathlib.Core.Logic.{_⊎_}
 use mathlib.Core.Bool.{Bool}
 use mathlib.Core.List.{List, _++_, map}
 use Prim.Native.Nat.{ℕ, _+_, _-_, _≤_, _<_, min}
-use lib.ListN.{length, getD, take, drop, set}
-use lib.Ieee.{Float, nan}
+use lib.ListN.{length, getD, take, drop}
+use lib.Ieee.{nan}
 use Rattle.float.specs.Ops.{f0, _⊕_}
 use Rattle.row.specs.Row.{Cells}
 use Rattle.row.specs.Sweep.{coveredOf, bytesOf, addBytes}

@@ -1,7 +1,6 @@
 -- `sweep::sweep` meets its contract: the last run goes up to the row's end. Assumes nothing.
-use mathlib.Core.Path.{_≡_, sym, ap, _∙_}
+use mathlib.Core.Path.{sym, ap, _∙_}
 use Prim.Native.Nat.{ℕ}
-use native.Mathlib.Omega.{arith}
 use lib.ListN.{replicate}
 use Rattle.float.specs.Ops.{f0}
 use Rattle.sweep.proofs.Runs.{last-run, all-zero}

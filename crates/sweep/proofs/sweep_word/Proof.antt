@@ -1,6 +1,6 @@
 -- `sweep::sweep_word` meets its contract: before each bit the state of proofs/Words.antt. Assumes nothing.
-use mathlib.Core.Path.{_≡_, ap, _∙_}
-use Prim.Native.Nat.{ℕ, _-_, _<_}
+use mathlib.Core.Path.{ap, _∙_}
+use Prim.Native.Nat.{ℕ, _-_}
 use native.Mathlib.Omega.{arith}
 use lib.Count.{trailing-le}
 use Rattle.row.specs.Marks.{bitOf}
