@@ -1,7 +1,8 @@
 -- How the code hands on what is read (specs/Words.antt): by a place of the list instead of the words behind it, and by how many points there were instead of the points.
 -- Definitions only.
+use mathlib.Core.List.{[]}
 use Prim.Native.Nat.{ℕ, _+_, _-_}
-use lib.IntN.{ℤ}
+use lib.IntN.{ℤ, pos}
 use lib.ListN.{length}
 use Rattle.words.specs.Words.{Group, pointsOf, Read, ok, fault}
 use Rattle.words.specs.declared.Counted.{Counted}
@@ -26,3 +27,19 @@ scanOf total points before (fault f) = scan.Refused f
 
 abbrev pub groupPoints : Group → ℕ
 groupPoints g = pointsOf (g .contours)
+
+-- ---- a list that was checked is read again when it is drawn
+
+-- no word was at fault
+abbrev pub Fine : {A : Type 0} → Read A → Type 0
+Fine (ok a rest) = Unit
+Fine (fault f) = ⊥
+
+-- the place behind what was read, in a list of `total` words
+abbrev pub endOf : {A : Type 0} → ℕ → Read A → ℕ
+endOf total (ok a rest) = total - length rest
+endOf total (fault f) = total
+
+-- a stand-in where no group was read
+abbrev pub noGroup : Group
+noGroup = record { rule = pos 0; contours = [] }

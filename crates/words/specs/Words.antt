@@ -107,10 +107,11 @@ unfoldable pub readWords : List ℤ → Read (List Group)
 unfolding readGroups
 readWords ws = readGroups (length ws) 0 ws
 
--- the groups of a list without a fault, and none of another
-abbrev pub groupsRead : Read (List Group) → List Group
-groupsRead (ok gs rest) = gs
-groupsRead (fault f) = []
+-- what was read, and another value where a word was at fault
+abbrev pub readOr : {A : Type 0} → A → Read A → A
+readOr other (ok a rest) = a
+readOr other (fault f) = other
 
+-- the groups of a list without a fault, and none of another
 abbrev pub groupsOf : List ℤ → List Group
-groupsOf ws = groupsRead (readWords ws)
+groupsOf ws = readOr [] (readWords ws)
