@@ -13,7 +13,7 @@ use lib.Ieee.Fits.{up-pos, down-pos}
 use lib.Ieee.Back.{unsigned-back, round-whole}
 use borrow.Author.Tests.{ltb-true, ltb-false, eq-eqb, ne-eqb, lt-ltb, le-ltb, le-leb}
 use Rattle.float.specs.Ops.{f0}
-use Rattle.float.specs.Whole.{floorOf, ceilOf, columnOf, ofWhole}
+use Rattle.float.specs.Whole.{integralOf, floorOf, ceilOf, columnOf, ofWhole}
 use Rattle.row.specs.Row.{ceilColumn}
 
 -- a column comes back from its float
@@ -33,7 +33,7 @@ module _ (m : ℕ) (e : ℤ) (low : columnOf (fin false m e) < 8191) where
   column-is = let l = low in omega arith
 
   floor-is : floorOf x ≡ ofWhole (columnOf x)
-  unfolding floorOf ofInt
+  unfolding integralOf ofInt
   floor-is = ap (λ (n : ℕ). round binary32 false n 1) (sym column-is)
 
   -- whether x has a fraction
@@ -54,7 +54,7 @@ module _ (m : ℕ) (e : ℤ) (low : columnOf (fin false m e) < 8191) where
           ap (λ (n : ℕ). ltb n (m * up e * down g)) a ∙ scaled (whole * down e) (m * up e) (down g) (down-pos g) (ltb (whole * down e) (m * up e)) refl
 
   ceil-is : columnOf (ceilOf x) ≡ ceilColumn x
-  unfolding ceilOf ceilColumn ofInt
+  unfolding integralOf ceilColumn ofInt
   ceil-is = go (m * up e % down e) refl
     where
       go : (r : ℕ) → m * up e % down e ≡ r → columnOf (ofWhole (cond (eqb (m * up e % down e) 0) whole (whole + 1))) ≡ cond (lt (ofWhole (columnOf x)) x) (columnOf x + 1) (columnOf x)
