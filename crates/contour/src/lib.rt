@@ -20,7 +20,7 @@ fn coordinate_at(words: &[i32], at: usize) -> f32
     (words[at] as f32) / 256.0
 }
 
-// Stores the edges of a closed contour of n points, whose words start at `at`, behind `before`
+// Stores the edges of a closed contour of n points, whose words start at `at`, behind `stored`
 // others that stand from `edges` on. Returns how many there are now.
 fn contour(
     words: &[i32],
@@ -28,28 +28,28 @@ fn contour(
     n: usize,
     floats: &mut [f32],
     edges: usize,
-    before: usize,
+    stored: usize,
     height: usize,
 ) -> usize
     requires { ⌜ Fine (readPoints n (drop at (now words))) ⌝ }
-    requires { ⌜ (edges + 5 * (before + n) ≤ length (now floats)) × (height ≤ 4096) ⌝ }
-    ensures { λ r. ⌜ Pushed (now (floats .entry)) (now (floats .exit)) edges before r n (contourOf height (readOr [] (readPoints n (drop at (now (words .entry)))))) ⌝ }
+    requires { ⌜ (edges + 5 * (stored + n) ≤ length (now floats)) × (height ≤ 4096) ⌝ }
+    ensures { λ r. ⌜ Pushed (now (floats .entry)) (now (floats .exit)) edges stored r n (contourOf height (readOr [] (readPoints n (drop at (now (words .entry)))))) ⌝ }
 {
     if n == 0 {
-        return before;
+        return stored;
     }
-    let last = at + 2 * (n - 1);
-    let mut x = coordinate_at(words, last);
-    let mut y = coordinate_at(words, last + 1);
-    let mut count = before;
-    let mut i = 0;
-    while i < n {
-        let to_x = coordinate_at(words, at + 2 * i);
-        let to_y = coordinate_at(words, at + 2 * i + 1);
+    let end = at + 2 * n;
+    let mut x = coordinate_at(words, end - 2);
+    let mut y = coordinate_at(words, end - 1);
+    let mut count = stored;
+    let mut next = at;
+    while next < end {
+        let to_x = coordinate_at(words, next);
+        let to_y = coordinate_at(words, next + 1);
         count = edge::push(floats, edges, count, x, y, to_x, to_y, height);
         x = to_x;
         y = to_y;
-        i += 1;
+        next += 2;
     }
     count
 }

@@ -72,6 +72,11 @@ points-there (suc n) ws at ps rest e =
     go p more zero h = let z : at + 2 * 0 ≡ at = omega arith in rw z p
     go p more (suc i) h = let z : at + 2 * suc i ≡ at + 2 + 2 * i = omega arith in rw z (more i (omega arith))
 
+-- they end within the list
+reach : (n : ℕ) (ws : List ℤ) (at : ℕ) → at - 1 < length ws → ((i : ℕ) → i < n → PointThere ws (at + 2 * i)) → at + 2 * n ≤ length ws
+reach zero ws at h t = omega arith
+reach (suc n) ws at h t = let w = (t n (omega arith)) .within in omega arith
+
 -- ---- with fewer points before it, the same is read
 
 pub contour-before : (b c : ℕ) → c ≤ b → (ws : List ℤ) (ps : List Point) (rest : List ℤ) → readContour b ws ≡ ok ps rest → readContour c ws ≡ ok ps rest
@@ -109,6 +114,8 @@ pub record NextContour (n : ℕ) (ws : List ℤ) (at : ℕ) : Type 0 where
   pub read : countedOf (readCount (drop at ws)) ≡ counted.Count count
   pub points : Fine (readPoints count (drop (at + 1) ws))
   pub few : count ≤ 2048
+  pub within : at + 1 + 2 * count ≤ length ws
+  pub size : length (readOr [] (readPoints count (drop (at + 1) ws))) ≡ count
   pub long : readPoints count (drop (at + 1) ws) ≡ ok (readOr [] (readPoints count (drop (at + 1) ws))) (drop (at + 1 + 2 * count) ws)
   pub others : Fine (readContours (n - 1) 0 (drop (at + 1 + 2 * count) ws))
   pub whole : readOr [] (readContours n 0 (drop at ws))
@@ -129,7 +136,8 @@ next-contour (suc n) ws at h f =
     let b = (count-next ws at m (k .rest) (k .first)) .1 in
     let q : readPoints m (drop (at + 1) ws) ≡ ok (x .value) (x .rest) = ap (readPoints m) (sym b) ∙ p .1 in
     let v = read-value [] (readPoints m (drop (at + 1) ws)) (x .value) (x .rest) q in
-    let t = (points-there m ws (at + 1) (x .value) (x .rest) q) .behind in
+    let j = points-there m ws (at + 1) (x .value) (x .rest) q in
+    let t = j .behind in
     let o = contours-before n (0 + length (x .value)) 0 (omega arith) (x .rest) (y .value) (y .rest) (y .first) in
     let d : readContours n 0 (drop (at + 1 + 2 * m) ws) ≡ ok (y .value) (y .rest) = ap (readContours n 0) (sym t) ∙ o in
     let s = y .second in
@@ -142,6 +150,8 @@ next-contour (suc n) ws at h f =
       read = ap countedOf (k .first);
       points = read-fine (readPoints m (drop (at + 1) ws)) (x .value) (x .rest) q;
       few = omega (arith, ltb-false 2048 (0 + m) (p .0));
+      within = let b = count-next ws at m (k .rest) (k .first) .0 in reach m ws (at + 1) (omega arith) (j .there);
+      size = ap length v ∙ points-length m (drop (at + 1) ws) (x .value) (x .rest) q;
       long = q ∙ ap (λ (ps : List Point). ok ps (x .rest)) (sym v) ∙ ap (ok (readOr [] (readPoints m (drop (at + 1) ws)))) t;
       others = read-fine (readContours (suc n - 1) 0 (drop (at + 1 + 2 * m) ws)) (y .value) (y .rest) c;
       whole = u
