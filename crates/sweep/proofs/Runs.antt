@@ -17,7 +17,7 @@ use Rattle.row.specs.Row.{Cells}
 use Rattle.row.specs.Sweep.{shareOf, coveredOf, bytesOf, addBytes}
 use Rattle.sweep.specs.declared.Run.{Run}
 use Rattle.sweep.specs.Sweeping.{plusOf, filledOf, Blank, lineFrom, Reached, Moved}
-use Rattle.sweep.proofs.Winding.{Steady, steady-more}
+use Rattle.sweep.proofs.Winding.{Steady, steady-zero, steady-more}
 
 -- ---- lines
 
@@ -152,6 +152,17 @@ last-run e line cells run r z =
     past-run e line cells (r .same) (run .winding) (run .from) (length line) l (omega arith) (r .steady) (λ c p q g. z c (omega arith) g g)
     ∙ finished e (length line) (filledOf (run .from) (length line) (coveredOf e (run .winding)) line) cells (run .winding) (let f = filled-length e line cells (r .same) (run .winding) (run .from) (length line) l (omega arith) (r .steady) (λ c p q g. z c (omega arith) g g) in omega arith)
     ∙ ap (λ (b : ℕ). filledOf (run .from) (length line) b line) (sym (r .byte))
+
+-- a row that holds no area adds nothing
+pub no-area : (e : Bool) (line : List ℕ) (n : ℕ) → length line ≡ n → ((i : ℕ) → getD line i 0 < 256) → addBytes line (bytesOf e f0 (replicate n f0)) ≡ line
+unfolding bytesOf addBytes
+no-area e line n h small =
+    let l : length line ≤ n = omega arith in
+    ap (λ (r : Cells). addBytes line (bytesOf e f0 r)) (sym (append-nil (replicate n f0)))
+    ∙ ap (addBytes line) (bytes-zeros e f0 n [] steady-zero)
+    ∙ add-run n (coveredOf e f0) [] line (omega arith)
+    ∙ ap (λ (b : ℕ). map (plusOf b) (take n line) ++ addBytes (drop n line) []) (covered-zero e)
+    ∙ rw (take-all n line l, drop-of-length-le line l) (append-nil (map (plusOf 0) line) ∙ sym (unchanged line small))
 
 -- ---- cleared cells
 
