@@ -101,5 +101,5 @@ module _ (height : ℕ) (ws : List ℤ) (from n : ℕ) (fs : List Float) (edges 
       let z = no-contour left ws at l (g .within) in
       let a : pointsOf (readOr [] (readContours n 0 (drop from ws))) ≡ g .done = (let b = g .few in let p = ap pointsOf (z .0) ∙ points-none in omega arith) in
       let e : edgesOf height (readOr [] (readContours n 0 (drop from ws))) ≡ g .new =
-        g .whole ∙ ap (λ (cs : List (List Point)). g .new ++ edgesOf height cs) (z .0) ∙ ap (λ (es : List Edge). g .new ++ es) (no-contours height) ∙ append-nil (g .new) in
+      g .whole ∙ ap (λ (cs : List (List Point)). g .new ++ edgesOf height cs) (z .0) ∙ ap (λ (es : List Edge). g .new ++ es) (no-contours height) ∙ append-nil (g .new) in
       (rw (a, e) (g .pushed), sym (g .end ∙ z .1))

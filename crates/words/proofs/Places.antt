@@ -269,3 +269,21 @@ next-group ws at gs h l = go (l .fuel) (l .enough) (l .read)
             read = ap (readGroups n (l .before + pointsOf (x .value .contours))) (sym (p .0 ∙ ap (λ (k : ℕ). drop k ws) (sym k))) ∙ y .first;
           };
         }
+
+-- a list has at most 2,048 points
+groups-few : (n before : ℕ) (ws : List ℤ) (gs : List Group) (rest : List ℤ) → before ≤ 2048 → readGroups n before ws ≡ ok gs rest → before + pointsIn gs ≤ 2048
+unfolding readGroups pointsIn
+groups-few zero before ws gs rest l e = let q : gs ≡ [] = cc in rw q (omega arith)
+groups-few (suc n) before [] gs rest l e = let q : gs ≡ [] = cc in rw q (omega arith)
+groups-few (suc n) before (w ∷ ws) gs rest l e =
+    let x = then-ok (readGroup before (w ∷ ws)) _ gs rest e in
+    let y = then-ok (readGroups n (before + pointsOf (x .value .contours)) (x .rest)) _ gs rest (x .second) in
+    let s = y .second in
+    let q : gs ≡ x .value ∷ y .value = cc in
+    let f = group-few before (w ∷ ws) (x .value) (x .rest) l (x .first) in
+    let g = groups-few n (before + pointsOf (x .value .contours)) (x .rest) (y .value) (y .rest) f (y .first) in
+    rw q (omega arith)
+
+pub words-few : (ws : List ℤ) (gs : List Group) (rest : List ℤ) → readWords ws ≡ ok gs rest → pointsIn gs ≤ 2048
+unfolding readWords
+words-few ws gs rest e = let g = groups-few (length ws) 0 ws gs rest (omega arith) e in omega arith

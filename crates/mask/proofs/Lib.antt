@@ -1,0 +1,5 @@
+-- OneGroup: one group of a list. AllGroups: one after another. Cleared: lent buffers, cleared. Answers: cause by cause.
+pub mod OneGroup
+pub mod AllGroups
+pub mod Cleared
+pub mod Answers
