@@ -15,7 +15,10 @@ slice-relend-prefix-clear-floats : tie.Need-slice-relend-prefix-clear-floats
 slice-relend-prefix-clear-floats c = search needs
 
 slice-aggregate-clear-floats : tie.Need-slice-aggregate-clear-floats
-slice-aggregate-clear-floats c = prefix (c .before .before .before .before .before .before .before .before .args .mask .now) (c .before .before .before .before .before .before .before .before .args .floats .now) (c .before .before .before .before .before .before .before .before .args .counters .now) (c .before .before .before .before .before .before .before .before .args .size) (c .before .before .before .before .before .before .before .before .args .points) (c .before .before .before .before .before .before .before .before .pre .0)
+slice-aggregate-clear-floats c =
+    let args = c .before .before .before .before .before .before .before .before .args in
+    let pre = c .before .before .before .before .before .before .before .before .pre in
+    prefix (args .mask .now) (args .floats .now) (args .counters .now) (args .size) (args .points) (pre .0)
 
 clear-floats-requires : tie.Need-clear-floats-requires
 clear-floats-requires c κs = search needs
@@ -24,7 +27,14 @@ clear-counters-requires : tie.Need-clear-counters-requires
 clear-counters-requires c κs = search needs
 
 draw-groups-requires : tie.Need-draw-groups-requires
-draw-groups-requires c κs = (cleared-room (c .before .before .before .before .before .before .before .before .before .before .before .before .before .before .before .before .before .before .args .mask .now) (c .before .before .before .before .before .before .before .before .before .before .before .before .before .before .before .before .before .before .args .floats .now) (c .before .before .before .before .before .before .before .before .before .before .before .before .before .before .before .before .before .before .args .counters .now) (c .before .before .before .before .before .before .before .before .before .before .before .before .before .before .before .before .before .before .args .size) (c .before .before .before .before .before .before .before .before .before .before .before .before .before .before .before .before .before .before .args .points) (c .before .before .before .before .before .before .before .before .before .before .before .before .before .before .before .before .before .before .pre .0) (c .before .before .before .before .before .before .before .before .before .before .before .before .before .clear-bytes .last .0) (c .before .before .before .before .before .before .before .before .before .clear-floats .last .0) (c .before .before .before .before .before .clear-counters .last .0) (c .before .before .before .before .before .before .before .before .before .before .before .before .before .clear-bytes .ensures) (c .before .before .before .before .before .before .before .before .before .clear-floats .ensures) (c .before .before .before .before .before .clear-counters .ensures), (cleared-clean (c .before .before .before .before .before .before .before .before .before .before .before .before .before .before .before .before .before .before .args .mask .now) (c .before .before .before .before .before .before .before .before .before .before .before .before .before .before .before .before .before .before .args .floats .now) (c .before .before .before .before .before .before .before .before .before .before .before .before .before .before .before .before .before .before .args .counters .now) (c .before .before .before .before .before .before .before .before .before .before .before .before .before .before .before .before .before .before .args .size) (c .before .before .before .before .before .before .before .before .before .before .before .before .before .before .before .before .before .before .args .points) (c .before .before .before .before .before .before .before .before .before .before .before .before .before .before .before .before .before .before .pre .0) (c .before .before .before .before .before .before .before .before .before .before .before .before .before .clear-bytes .last .0) (c .before .before .before .before .before .before .before .before .before .clear-floats .last .0) (c .before .before .before .before .before .clear-counters .last .0) (c .before .before .before .before .before .before .before .before .before .before .before .before .before .clear-bytes .ensures) (c .before .before .before .before .before .before .before .before .before .clear-floats .ensures) (c .before .before .before .before .before .clear-counters .ensures), (cleared-zeros (c .before .before .before .before .before .before .before .before .before .before .before .before .before .before .before .before .before .before .args .mask .now) (c .before .before .before .before .before .before .before .before .before .before .before .before .before .before .before .before .before .before .args .floats .now) (c .before .before .before .before .before .before .before .before .before .before .before .before .before .before .before .before .before .before .args .counters .now) (c .before .before .before .before .before .before .before .before .before .before .before .before .before .before .before .before .before .before .args .size) (c .before .before .before .before .before .before .before .before .before .before .before .before .before .before .before .before .before .before .args .points) (c .before .before .before .before .before .before .before .before .before .before .before .before .before .before .before .before .before .before .pre .0) (c .before .before .before .before .before .before .before .before .before .before .before .before .before .clear-bytes .last .0) (c .before .before .before .before .before .before .before .before .before .clear-floats .last .0) (c .before .before .before .before .before .clear-counters .last .0) (c .before .before .before .before .before .before .before .before .before .before .before .before .before .clear-bytes .ensures) (c .before .before .before .before .before .before .before .before .before .clear-floats .ensures) (c .before .before .before .before .before .clear-counters .ensures), (c .before .before .before .before .before .before .before .before .before .before .before .before .before .before .before .before .before .before .pre .1 .0, c .before .before .before .before .before .before .before .before .before .before .before .before .before .before .before .before .before .before .pre .1 .1))))
+draw-groups-requires c κs =
+    let args = c .before .before .before .before .before .before .before .before .before .before .before .before .before .before .before .before .before .before .args in
+    let pre = c .before .before .before .before .before .before .before .before .before .before .before .before .before .before .before .before .before .before .pre in
+    let clear-bytes = c .before .before .before .before .before .before .before .before .before .before .before .before .before .clear-bytes in
+    let clear-floats = c .before .before .before .before .before .before .before .before .before .clear-floats in
+    let clear-counters = c .before .before .before .before .before .clear-counters in
+    (cleared-room (args .mask .now) (args .floats .now) (args .counters .now) (args .size) (args .points) (pre .0) (clear-bytes .last .0) (clear-floats .last .0) (clear-counters .last .0) (clear-bytes .ensures) (clear-floats .ensures) (clear-counters .ensures),
+    (cleared-clean (args .mask .now) (args .floats .now) (args .counters .now) (args .size) (args .points) (pre .0) (clear-bytes .last .0) (clear-floats .last .0) (clear-counters .last .0) (clear-bytes .ensures) (clear-floats .ensures) (clear-counters .ensures), (cleared-zeros (args .mask .now) (args .floats .now) (args .counters .now) (args .size) (args .points) (pre .0) (clear-bytes .last .0) (clear-floats .last .0) (clear-counters .last .0) (clear-bytes .ensures) (clear-floats .ensures) (clear-counters .ensures), (pre .1 .0, pre .1 .1))))
 
 clear-floats-requires-2 : tie.Need-clear-floats-requires-2
 clear-floats-requires-2 c κs = search needs
@@ -42,7 +52,16 @@ same-length-3 : tie.Need-same-length-3
 same-length-3 c = search needs
 
 returns : tie.Need-returns
-returns c = (c .before .before .before .before .before .before .before .before .before .before .before .before .before .before .draw-groups .ensures, (c .before .before .before .before .before .before .clear-floats2 .ensures ∙ ap (λ (n : ℕ). replicate n f0) (c .before .before .before .before .before .before .before .before .before .before .before .before .before .before .draw-groups .kept .1 .0 ∙ floats-long (c .before .before .before .before .before .before .before .before .before .before .before .before .before .before .before .before .before .before .before .before .before .before .before .before .before .before .before .before .before .before .before .before .before .args .mask .now) (c .before .before .before .before .before .before .before .before .before .before .before .before .before .before .before .before .before .before .before .before .before .before .before .before .before .before .before .before .before .before .before .before .before .args .floats .now) (c .before .before .before .before .before .before .before .before .before .before .before .before .before .before .before .before .before .before .before .before .before .before .before .before .before .before .before .before .before .before .before .before .before .args .counters .now) (c .before .before .before .before .before .before .before .before .before .before .before .before .before .before .before .before .before .before .before .before .before .before .before .before .before .before .before .before .before .before .before .before .before .args .size) (c .before .before .before .before .before .before .before .before .before .before .before .before .before .before .before .before .before .before .before .before .before .before .before .before .before .before .before .before .before .before .before .before .before .args .points) (c .before .before .before .before .before .before .before .before .before .before .before .before .before .before .before .before .before .before .before .before .before .before .before .before .before .before .before .before .before .before .before .before .before .pre .0) (c .before .before .before .before .before .before .before .before .before .before .before .before .before .before .before .before .before .before .before .before .before .before .before .before .before .before .before .before .clear-bytes .last .0) (c .before .before .before .before .before .before .before .before .before .before .before .before .before .before .before .before .before .before .before .before .before .before .before .before .clear-floats .last .0) (c .before .before .before .before .before .before .before .before .before .before .before .before .before .before .before .before .before .before .before .before .clear-counters .last .0) (c .before .before .before .before .before .before .before .before .before .before .before .before .before .before .before .before .before .before .before .before .before .before .before .before .before .before .before .before .clear-bytes .ensures) (c .before .before .before .before .before .before .before .before .before .before .before .before .before .before .before .before .before .before .before .before .before .before .before .before .clear-floats .ensures) (c .before .before .before .before .before .before .before .before .before .before .before .before .before .before .before .before .before .before .before .before .clear-counters .ensures)), c .before .before .clear-counters2 .ensures ∙ ap (λ (n : ℕ). replicate n 0) (c .before .before .before .before .before .before .before .before .before .before .before .before .before .before .draw-groups .kept .1 .1 .0 ∙ counters-long (c .before .before .before .before .before .before .before .before .before .before .before .before .before .before .before .before .before .before .before .before .before .before .before .before .before .before .before .before .before .before .before .before .before .args .mask .now) (c .before .before .before .before .before .before .before .before .before .before .before .before .before .before .before .before .before .before .before .before .before .before .before .before .before .before .before .before .before .before .before .before .before .args .floats .now) (c .before .before .before .before .before .before .before .before .before .before .before .before .before .before .before .before .before .before .before .before .before .before .before .before .before .before .before .before .before .before .before .before .before .args .counters .now) (c .before .before .before .before .before .before .before .before .before .before .before .before .before .before .before .before .before .before .before .before .before .before .before .before .before .before .before .before .before .before .before .before .before .args .size) (c .before .before .before .before .before .before .before .before .before .before .before .before .before .before .before .before .before .before .before .before .before .before .before .before .before .before .before .before .before .before .before .before .before .args .points) (c .before .before .before .before .before .before .before .before .before .before .before .before .before .before .before .before .before .before .before .before .before .before .before .before .before .before .before .before .before .before .before .before .before .pre .0) (c .before .before .before .before .before .before .before .before .before .before .before .before .before .before .before .before .before .before .before .before .before .before .before .before .before .before .before .before .clear-bytes .last .0) (c .before .before .before .before .before .before .before .before .before .before .before .before .before .before .before .before .before .before .before .before .before .before .before .before .clear-floats .last .0) (c .before .before .before .before .before .before .before .before .before .before .before .before .before .before .before .before .before .before .before .before .clear-counters .last .0) (c .before .before .before .before .before .before .before .before .before .before .before .before .before .before .before .before .before .before .before .before .before .before .before .before .before .before .before .before .clear-bytes .ensures) (c .before .before .before .before .before .before .before .before .before .before .before .before .before .before .before .before .before .before .before .before .before .before .before .before .clear-floats .ensures) (c .before .before .before .before .before .before .before .before .before .before .before .before .before .before .before .before .before .before .before .before .clear-counters .ensures))))
+returns c =
+    let args = c .before .before .before .before .before .before .before .before .before .before .before .before .before .before .before .before .before .before .before .before .before .before .before .before .before .before .before .before .before .before .before .before .before .args in
+    let pre = c .before .before .before .before .before .before .before .before .before .before .before .before .before .before .before .before .before .before .before .before .before .before .before .before .before .before .before .before .before .before .before .before .before .pre in
+    let clear-bytes = c .before .before .before .before .before .before .before .before .before .before .before .before .before .before .before .before .before .before .before .before .before .before .before .before .before .before .before .before .clear-bytes in
+    let clear-floats = c .before .before .before .before .before .before .before .before .before .before .before .before .before .before .before .before .before .before .before .before .before .before .before .before .clear-floats in
+    let clear-counters = c .before .before .before .before .before .before .before .before .before .before .before .before .before .before .before .before .before .before .before .before .clear-counters in
+    let draw-groups = c .before .before .before .before .before .before .before .before .before .before .before .before .before .before .draw-groups in
+    let clear-floats2 = c .before .before .before .before .before .before .clear-floats2 in
+    (draw-groups .ensures,
+    (clear-floats2 .ensures ∙ ap (λ (n : ℕ). replicate n f0) (draw-groups .kept .1 .0 ∙ floats-long (args .mask .now) (args .floats .now) (args .counters .now) (args .size) (args .points) (pre .0) (clear-bytes .last .0) (clear-floats .last .0) (clear-counters .last .0) (clear-bytes .ensures) (clear-floats .ensures) (clear-counters .ensures)), c .before .before .clear-counters2 .ensures ∙ ap (λ (n : ℕ). replicate n 0) (draw-groups .kept .1 .1 .0 ∙ counters-long (args .mask .now) (args .floats .now) (args .counters .now) (args .size) (args .points) (pre .0) (clear-bytes .last .0) (clear-floats .last .0) (clear-counters .last .0) (clear-bytes .ensures) (clear-floats .ensures) (clear-counters .ensures))))
 
 pub draw-spec : {M : Type 1} → statement M
 draw-spec =

@@ -29,13 +29,31 @@ enum-told : tie.Need-enum-told
 enum-told c = search needs
 
 returns : tie.Need-returns
-returns c = let there = group-there (c .before .before .before .before .before .before .args .words .now) (c .before .before .before .before .before .before .args .at) (c .before .before .before .before .before .before .pre .1 .1 .0) (c .before .before .before .before .before .before .pre .1 .1 .1 .0) in absurd (not-refused (c .before .before .count-at .result) (there .count) (c .before .before .count-at .ensures ∙ there .read) (c .enum-told .given .1))
+returns c =
+    let args = c .before .before .before .before .before .before .args in
+    let pre = c .before .before .before .before .before .before .pre in
+    let count-at = c .before .before .count-at in
+    let there = group-there (args .words .now) (args .at) (pre .1 .1 .0) (pre .1 .1 .1 .0) in
+    absurd (not-refused (count-at .result) (there .count) (count-at .ensures ∙ there .read) (c .enum-told .given .1))
 
 add-contours : tie.Need-add-contours
-add-contours c = let there = group-there (c .before .before .before .before .before .before .before .args .words .now) (c .before .before .before .before .before .before .before .args .at) (c .before .before .before .before .before .before .before .pre .1 .1 .0) (c .before .before .before .before .before .before .before .pre .1 .1 .1 .0) in let w = there .within in omega arith
+add-contours c =
+    let args = c .before .before .before .before .before .before .before .args in
+    let pre = c .before .before .before .before .before .before .before .pre in
+    let there = group-there (args .words .now) (args .at) (pre .1 .1 .0) (pre .1 .1 .1 .0) in
+    let w = there .within in
+    omega arith
 
 contours-requires : tie.Need-contours-requires
-contours-requires c κs = let there = group-there (c .before .before .before .before .before .before .before .before .args .words .now) (c .before .before .before .before .before .before .before .before .args .at) (c .before .before .before .before .before .before .before .before .pre .1 .1 .0) (c .before .before .before .before .before .before .before .before .pre .1 .1 .1 .0) in let e = same-count (c .before .before .before .before .count-at .result) (c .before .before .n .given .0 .0) (there .count) (c .before .before .n .given .1) (c .before .before .before .before .count-at .ensures ∙ there .read) in (contours-fine (c .before .before .before .before .before .before .before .before .args .mask .now) (c .before .before .before .before .before .before .before .before .args .floats .now) (c .before .before .before .before .before .before .before .before .args .counters .now) (c .before .before .before .before .before .before .before .before .args .size) (c .before .before .before .before .before .before .before .before .args .points) (c .before .before .before .before .before .before .before .before .args .words .now) (c .before .before .before .before .before .before .before .before .args .at) (c .before .before .before .before .before .before .before .before .pre .0) (c .before .before .before .before .before .before .before .before .pre .1 .1 .1 .1) there (c .before .before .n .given .0 .0) e, (there .within, (contours-room (c .before .before .before .before .before .before .before .before .args .mask .now) (c .before .before .before .before .before .before .before .before .args .floats .now) (c .before .before .before .before .before .before .before .before .args .counters .now) (c .before .before .before .before .before .before .before .before .args .size) (c .before .before .before .before .before .before .before .before .args .points) (c .before .before .before .before .before .before .before .before .args .words .now) (c .before .before .before .before .before .before .before .before .args .at) (c .before .before .before .before .before .before .before .before .pre .0) (c .before .before .before .before .before .before .before .before .pre .1 .1 .1 .1) there (c .before .before .n .given .0 .0) e, c .before .before .before .before .before .before .before .before .pre .0 .low)))
+contours-requires c κs =
+    let args = c .before .before .before .before .before .before .before .before .args in
+    let pre = c .before .before .before .before .before .before .before .before .pre in
+    let count-at = c .before .before .before .before .count-at in
+    let n-known = c .before .before .n in
+    let there = group-there (args .words .now) (args .at) (pre .1 .1 .0) (pre .1 .1 .1 .0) in
+    let e = same-count (count-at .result) (n-known .given .0 .0) (there .count) (n-known .given .1) (count-at .ensures ∙ there .read) in
+    (contours-fine (args .mask .now) (args .floats .now) (args .counters .now) (args .size) (args .points) (args .words .now) (args .at) (pre .0) (pre .1 .1 .1 .1) there (n-known .given .0 .0) e,
+    (there .within, (contours-room (args .mask .now) (args .floats .now) (args .counters .now) (args .size) (args .points) (args .words .now) (args .at) (pre .0) (pre .1 .1 .1 .1) there (n-known .given .0 .0) e, pre .0 .low)))
 
 mul-resolve : tie.Need-mul-resolve
 mul-resolve c = search needs
@@ -44,7 +62,16 @@ shared-slice-copy-out-resolve : tie.Need-shared-slice-copy-out-resolve
 shared-slice-copy-out-resolve c = search needs
 
 resolve-requires : tie.Need-resolve-requires
-resolve-requires c κs = let there = group-there (c .before .before .before .before .before .before .before .before .before .before .before .before .before .before .before .args .words .now) (c .before .before .before .before .before .before .before .before .before .before .before .before .before .before .before .args .at) (c .before .before .before .before .before .before .before .before .before .before .before .before .before .before .before .pre .1 .1 .0) (c .before .before .before .before .before .before .before .before .before .before .before .before .before .before .before .pre .1 .1 .1 .0) in let e = same-count (c .before .before .before .before .before .before .before .before .before .before .before .count-at .result) (c .before .before .before .before .before .before .before .before .before .n .given .0 .0) (there .count) (c .before .before .before .before .before .before .before .before .before .n .given .1) (c .before .before .before .before .before .before .before .before .before .before .before .count-at .ensures ∙ there .read) in (stored-room (c .before .before .before .before .before .before .before .before .before .before .before .before .before .before .before .args .mask .now) (c .before .before .before .before .before .before .before .before .before .before .before .before .before .before .before .args .floats .now) (c .before .before .before .before .before .before .before .before .before .before .before .before .before .before .before .args .counters .now) (c .before .before .before .before .before .before .before .before .before .before .before .before .before .before .before .args .size) (c .before .before .before .before .before .before .before .before .before .before .before .before .before .before .before .args .points) (c .before .before .before .before .before .before .before .before .before .before .before .before .before .before .before .args .words .now) (c .before .before .before .before .before .before .before .before .before .before .before .before .before .before .before .args .at) (c .before .before .before .before .before .before .before .before .before .before .before .before .before .before .before .pre .0) (c .before .before .before .before .before .before .before .before .before .before .before .before .before .before .before .pre .1 .1 .1 .1) there (c .before .before .before .before .before .before .before .before .before .n .given .0 .0) e (c .before .before .before .before .before .before .contours .last .1 .1 .1 .0) (c .before .before .before .before .before .before .contours .result .count) (c .before .before .before .before .before .before .contours .kept .1 .1 .1 .0) (c .before .before .before .before .before .before .contours .ensures .0), (stored-clean (c .before .before .before .before .before .before .before .before .before .before .before .before .before .before .before .args .mask .now) (c .before .before .before .before .before .before .before .before .before .before .before .before .before .before .before .args .floats .now) (c .before .before .before .before .before .before .before .before .before .before .before .before .before .before .before .args .counters .now) (c .before .before .before .before .before .before .before .before .before .before .before .before .before .before .before .args .size) (c .before .before .before .before .before .before .before .before .before .before .before .before .before .before .before .args .points) (c .before .before .before .before .before .before .before .before .before .before .before .before .before .before .before .args .words .now) (c .before .before .before .before .before .before .before .before .before .before .before .before .before .before .before .args .at) (c .before .before .before .before .before .before .before .before .before .before .before .before .before .before .before .pre .0) (c .before .before .before .before .before .before .before .before .before .before .before .before .before .before .before .pre .1 .1 .1 .1) there (c .before .before .before .before .before .before .before .before .before .n .given .0 .0) e (c .before .before .before .before .before .before .contours .last .1 .1 .1 .0) (c .before .before .before .before .before .before .contours .result .count) (c .before .before .before .before .before .before .contours .kept .1 .1 .1 .0) (c .before .before .before .before .before .before .contours .ensures .0) (c .before .before .before .before .before .before .before .before .before .before .before .before .before .before .before .pre .1 .0), (stored-few (c .before .before .before .before .before .before .before .before .before .before .before .before .before .before .before .args .mask .now) (c .before .before .before .before .before .before .before .before .before .before .before .before .before .before .before .args .floats .now) (c .before .before .before .before .before .before .before .before .before .before .before .before .before .before .before .args .counters .now) (c .before .before .before .before .before .before .before .before .before .before .before .before .before .before .before .args .size) (c .before .before .before .before .before .before .before .before .before .before .before .before .before .before .before .args .points) (c .before .before .before .before .before .before .before .before .before .before .before .before .before .before .before .args .words .now) (c .before .before .before .before .before .before .before .before .before .before .before .before .before .before .before .args .at) (c .before .before .before .before .before .before .before .before .before .before .before .before .before .before .before .pre .0) (c .before .before .before .before .before .before .before .before .before .before .before .before .before .before .before .pre .1 .1 .1 .1) there (c .before .before .before .before .before .before .before .before .before .n .given .0 .0) e (c .before .before .before .before .before .before .contours .last .1 .1 .1 .0) (c .before .before .before .before .before .before .contours .result .count) (c .before .before .before .before .before .before .contours .kept .1 .1 .1 .0) (c .before .before .before .before .before .before .contours .ensures .0), stored (c .before .before .before .before .before .before .before .before .before .before .before .before .before .before .before .args .mask .now) (c .before .before .before .before .before .before .before .before .before .before .before .before .before .before .before .args .floats .now) (c .before .before .before .before .before .before .before .before .before .before .before .before .before .before .before .args .counters .now) (c .before .before .before .before .before .before .before .before .before .before .before .before .before .before .before .args .size) (c .before .before .before .before .before .before .before .before .before .before .before .before .before .before .before .args .points) (c .before .before .before .before .before .before .before .before .before .before .before .before .before .before .before .args .words .now) (c .before .before .before .before .before .before .before .before .before .before .before .before .before .before .before .args .at) (c .before .before .before .before .before .before .before .before .before .before .before .before .before .before .before .pre .0) (c .before .before .before .before .before .before .before .before .before .before .before .before .before .before .before .pre .1 .1 .1 .1) there (c .before .before .before .before .before .before .before .before .before .n .given .0 .0) e (c .before .before .before .before .before .before .contours .last .1 .1 .1 .0) (c .before .before .before .before .before .before .contours .result .count) (c .before .before .before .before .before .before .contours .kept .1 .1 .1 .0) (c .before .before .before .before .before .before .contours .ensures .0) (not (eqb (ofZ w32 (getD (c .before .before .before .before .before .before .before .before .before .before .before .before .before .before .before .args .words .now) (c .before .before .before .before .before .before .before .before .before .before .before .before .before .before .before .args .at) (pos 0))) 0)) (ap not (zero-word (getD (c .before .before .before .before .before .before .before .before .before .before .before .before .before .before .before .args .words .now) (c .before .before .before .before .before .before .before .before .before .before .before .before .before .before .before .args .at) (pos 0)) (sfits-of (c .resolve-arg4 .given)))))))
+resolve-requires c κs =
+    let args = c .before .before .before .before .before .before .before .before .before .before .before .before .before .before .before .args in
+    let pre = c .before .before .before .before .before .before .before .before .before .before .before .before .before .before .before .pre in
+    let count-at = c .before .before .before .before .before .before .before .before .before .before .before .count-at in
+    let n-known = c .before .before .before .before .before .before .before .before .before .n in
+    let contours = c .before .before .before .before .before .before .contours in
+    let there = group-there (args .words .now) (args .at) (pre .1 .1 .0) (pre .1 .1 .1 .0) in
+    let e = same-count (count-at .result) (n-known .given .0 .0) (there .count) (n-known .given .1) (count-at .ensures ∙ there .read) in
+    (stored-room (args .mask .now) (args .floats .now) (args .counters .now) (args .size) (args .points) (args .words .now) (args .at) (pre .0) (pre .1 .1 .1 .1) there (n-known .given .0 .0) e (contours .last .1 .1 .1 .0) (contours .result .count) (contours .kept .1 .1 .1 .0) (contours .ensures .0),
+    (stored-clean (args .mask .now) (args .floats .now) (args .counters .now) (args .size) (args .points) (args .words .now) (args .at) (pre .0) (pre .1 .1 .1 .1) there (n-known .given .0 .0) e (contours .last .1 .1 .1 .0) (contours .result .count) (contours .kept .1 .1 .1 .0) (contours .ensures .0) (pre .1 .0), (stored-few (args .mask .now) (args .floats .now) (args .counters .now) (args .size) (args .points) (args .words .now) (args .at) (pre .0) (pre .1 .1 .1 .1) there (n-known .given .0 .0) e (contours .last .1 .1 .1 .0) (contours .result .count) (contours .kept .1 .1 .1 .0) (contours .ensures .0), stored (args .mask .now) (args .floats .now) (args .counters .now) (args .size) (args .points) (args .words .now) (args .at) (pre .0) (pre .1 .1 .1 .1) there (n-known .given .0 .0) e (contours .last .1 .1 .1 .0) (contours .result .count) (contours .kept .1 .1 .1 .0) (contours .ensures .0) (not (eqb (ofZ w32 (getD (args .words .now) (args .at) (pos 0))) 0)) (ap not (zero-word (getD (args .words .now) (args .at) (pos 0)) (sfits-of (c .resolve-arg4 .given)))))))
 
 same-length : tie.Need-same-length
 same-length c = search needs
@@ -56,7 +83,18 @@ same-length-3 : tie.Need-same-length-3
 same-length-3 c = search needs
 
 returns-2 : tie.Need-returns-2
-returns-2 c = let there = group-there (c .before .before .before .before .before .before .before .before .before .before .before .before .before .before .before .before .before .before .before .before .before .before .args .words .now) (c .before .before .before .before .before .before .before .before .before .before .before .before .before .before .before .before .before .before .before .before .before .before .args .at) (c .before .before .before .before .before .before .before .before .before .before .before .before .before .before .before .before .before .before .before .before .before .before .pre .1 .1 .0) (c .before .before .before .before .before .before .before .before .before .before .before .before .before .before .before .before .before .before .before .before .before .before .pre .1 .1 .1 .0) in let e = same-count (c .before .before .before .before .before .before .before .before .before .before .before .before .before .before .before .before .before .before .count-at .result) (c .before .before .before .before .before .before .before .before .before .before .before .before .before .before .before .before .n .given .0 .0) (there .count) (c .before .before .before .before .before .before .before .before .before .before .before .before .before .before .before .before .n .given .1) (c .before .before .before .before .before .before .before .before .before .before .before .before .before .before .before .before .before .before .count-at .ensures ∙ there .read) in (c .before .before .before .before .before .before .resolve .ensures .0 (readOr noGroup (readGroup 0 (drop (c .before .before .before .before .before .before .before .before .before .before .before .before .before .before .before .before .before .before .before .before .before .before .args .at) (c .before .before .before .before .before .before .before .before .before .before .before .before .before .before .before .before .before .before .before .before .before .before .args .words .now)))) (holds (c .before .before .before .before .before .before .before .before .before .before .before .before .before .before .before .before .before .before .before .before .before .before .args .mask .now) (c .before .before .before .before .before .before .before .before .before .before .before .before .before .before .before .before .before .before .before .before .before .before .args .floats .now) (c .before .before .before .before .before .before .before .before .before .before .before .before .before .before .before .before .before .before .before .before .before .before .args .counters .now) (c .before .before .before .before .before .before .before .before .before .before .before .before .before .before .before .before .before .before .before .before .before .before .args .size) (c .before .before .before .before .before .before .before .before .before .before .before .before .before .before .before .before .before .before .before .before .before .before .args .points) (c .before .before .before .before .before .before .before .before .before .before .before .before .before .before .before .before .before .before .before .before .before .before .args .words .now) (c .before .before .before .before .before .before .before .before .before .before .before .before .before .before .before .before .before .before .before .before .before .before .args .at) (c .before .before .before .before .before .before .before .before .before .before .before .before .before .before .before .before .before .before .before .before .before .before .pre .0) (c .before .before .before .before .before .before .before .before .before .before .before .before .before .before .before .before .before .before .before .before .before .before .pre .1 .1 .1 .1) there (c .before .before .before .before .before .before .before .before .before .before .before .before .before .before .before .before .n .given .0 .0) e (c .before .before .before .before .before .before .before .before .before .before .before .before .before .contours .last .1 .1 .1 .0) (c .before .before .before .before .before .before .before .before .before .before .before .before .before .contours .result .count) (c .before .before .before .before .before .before .before .before .before .before .before .before .before .contours .kept .1 .1 .1 .0) (c .before .before .before .before .before .before .before .before .before .before .before .before .before .contours .ensures .0) (not (eqb (ofZ w32 (getD (c .before .before .before .before .before .before .before .before .before .before .before .before .before .before .before .before .before .before .before .before .before .before .args .words .now) (c .before .before .before .before .before .before .before .before .before .before .before .before .before .before .before .before .before .before .before .before .before .before .args .at) (pos 0))) 0)) (ap not (zero-word (getD (c .before .before .before .before .before .before .before .before .before .before .before .before .before .before .before .before .before .before .before .before .before .before .args .words .now) (c .before .before .before .before .before .before .before .before .before .before .before .before .before .before .before .before .before .before .before .before .before .before .args .at) (pos 0)) (sfits-of (c .before .before .before .before .before .before .before .resolve-arg4 .given))))), (c .before .before .before .before .before .before .before .before .before .before .before .before .before .contours .ensures .1 ∙ contours-end (c .before .before .before .before .before .before .before .before .before .before .before .before .before .before .before .before .before .before .before .before .before .before .args .mask .now) (c .before .before .before .before .before .before .before .before .before .before .before .before .before .before .before .before .before .before .before .before .before .before .args .floats .now) (c .before .before .before .before .before .before .before .before .before .before .before .before .before .before .before .before .before .before .before .before .before .before .args .counters .now) (c .before .before .before .before .before .before .before .before .before .before .before .before .before .before .before .before .before .before .before .before .before .before .args .size) (c .before .before .before .before .before .before .before .before .before .before .before .before .before .before .before .before .before .before .before .before .before .before .args .points) (c .before .before .before .before .before .before .before .before .before .before .before .before .before .before .before .before .before .before .before .before .before .before .args .words .now) (c .before .before .before .before .before .before .before .before .before .before .before .before .before .before .before .before .before .before .before .before .before .before .args .at) (c .before .before .before .before .before .before .before .before .before .before .before .before .before .before .before .before .before .before .before .before .before .before .pre .0) (c .before .before .before .before .before .before .before .before .before .before .before .before .before .before .before .before .before .before .before .before .before .before .pre .1 .1 .1 .1) there (c .before .before .before .before .before .before .before .before .before .before .before .before .before .before .before .before .n .given .0 .0) e, c .before .before .before .before .before .before .resolve .ensures .1))
+returns-2 c =
+    let args = c .before .before .before .before .before .before .before .before .before .before .before .before .before .before .before .before .before .before .before .before .before .before .args in
+    let pre = c .before .before .before .before .before .before .before .before .before .before .before .before .before .before .before .before .before .before .before .before .before .before .pre in
+    let count-at = c .before .before .before .before .before .before .before .before .before .before .before .before .before .before .before .before .before .before .count-at in
+    let n-known = c .before .before .before .before .before .before .before .before .before .before .before .before .before .before .before .before .n in
+    let contours = c .before .before .before .before .before .before .before .before .before .before .before .before .before .contours in
+    let resolve-arg4 = c .before .before .before .before .before .before .before .resolve-arg4 in
+    let resolve = c .before .before .before .before .before .before .resolve in
+    let there = group-there (args .words .now) (args .at) (pre .1 .1 .0) (pre .1 .1 .1 .0) in
+    let e = same-count (count-at .result) (n-known .given .0 .0) (there .count) (n-known .given .1) (count-at .ensures ∙ there .read) in
+    (resolve .ensures .0 (readOr noGroup (readGroup 0 (drop (args .at) (args .words .now)))) (holds (args .mask .now) (args .floats .now) (args .counters .now) (args .size) (args .points) (args .words .now) (args .at) (pre .0) (pre .1 .1 .1 .1) there (n-known .given .0 .0) e (contours .last .1 .1 .1 .0) (contours .result .count) (contours .kept .1 .1 .1 .0) (contours .ensures .0) (not (eqb (ofZ w32 (getD (args .words .now) (args .at) (pos 0))) 0)) (ap not (zero-word (getD (args .words .now) (args .at) (pos 0)) (sfits-of (resolve-arg4 .given))))),
+    (contours .ensures .1 ∙ contours-end (args .mask .now) (args .floats .now) (args .counters .now) (args .size) (args .points) (args .words .now) (args .at) (pre .0) (pre .1 .1 .1 .1) there (n-known .given .0 .0) e, resolve .ensures .1))
 
 pub draw-group-spec : {M : Type 1} → statement M
 draw-group-spec =

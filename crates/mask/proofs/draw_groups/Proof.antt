@@ -15,16 +15,41 @@ abbrev μ-loop : tie.MeasureT-loop
 μ-loop mask₀ floats₀ counters₀ size points words at₀ mask floats counters at = length words - at
 
 loop-holds : tie.Need-loop-holds Inv-loop μ-loop
-loop-holds c = standing-start (c .before .before .before .args .size) (c .before .before .before .args .points) (c .before .before .before .args .words .now) (c .before .before .before .args .mask .now) (c .before .before .before .args .floats .now) (c .before .before .before .args .counters .now) (c .before .before .before .pre .0) (c .before .before .before .pre .1 .0) (c .before .before .before .pre .1 .1 .0) (c .before .before .before .pre .1 .1 .1 .0) (c .before .before .before .pre .1 .1 .1 .1)
+loop-holds c =
+    let args = c .before .before .before .args in
+    let pre = c .before .before .before .pre in
+    standing-start (args .size) (args .points) (args .words .now) (args .mask .now) (args .floats .now) (args .counters .now) (pre .0) (pre .1 .0) (pre .1 .1 .0) (pre .1 .1 .1 .0) (pre .1 .1 .1 .1)
 
 draw-group-requires : tie.Need-draw-group-requires Inv-loop μ-loop
-draw-group-requires c κs = let more = c .before .before .before .loop-test .taken in (standing-room (c .before .before .before .before .before .before .before .before .args .size) (c .before .before .before .before .before .before .before .before .args .points) (c .before .before .before .before .before .before .before .before .args .words .now) (c .before .before .before .before .before .before .before .before .args .mask .now) (c .before .before .before .before .before .before .before .before .args .floats .now) (c .before .before .before .before .before .before .before .before .args .counters .now) (c .before .before .before .before .before .before .before .before .pre .0) (c .before .before .before .before .loop .mask) (c .before .before .before .before .loop .floats) (c .before .before .before .before .loop .counters) (c .before .before .before .before .loop .at) (c .before .before .before .before .loop .inv), (c .before .before .before .before .loop .inv .clean, (more, (the-next (c .before .before .before .before .before .before .before .before .args .size) (c .before .before .before .before .before .before .before .before .args .points) (c .before .before .before .before .before .before .before .before .args .words .now) (c .before .before .before .before .before .before .before .before .args .mask .now) (c .before .before .before .before .before .before .before .before .args .floats .now) (c .before .before .before .before .before .before .before .before .args .counters .now) (c .before .before .before .before .before .before .before .before .pre .0) (c .before .before .before .before .loop .mask) (c .before .before .before .before .loop .floats) (c .before .before .before .before .loop .counters) (c .before .before .before .before .loop .at) (c .before .before .before .before .loop .inv) more .fine, next-few (c .before .before .before .before .before .before .before .before .args .size) (c .before .before .before .before .before .before .before .before .args .points) (c .before .before .before .before .before .before .before .before .args .words .now) (c .before .before .before .before .before .before .before .before .args .mask .now) (c .before .before .before .before .before .before .before .before .args .floats .now) (c .before .before .before .before .before .before .before .before .args .counters .now) (c .before .before .before .before .before .before .before .before .pre .0) (c .before .before .before .before .loop .mask) (c .before .before .before .before .loop .floats) (c .before .before .before .before .loop .counters) (c .before .before .before .before .loop .at) (c .before .before .before .before .loop .inv) more))))
+draw-group-requires c κs =
+    let args = c .before .before .before .before .before .before .before .before .args in
+    let pre = c .before .before .before .before .before .before .before .before .pre in
+    let loop = c .before .before .before .before .loop in
+    let more = c .before .before .before .loop-test .taken in
+    (standing-room (args .size) (args .points) (args .words .now) (args .mask .now) (args .floats .now) (args .counters .now) (pre .0) (loop .mask) (loop .floats) (loop .counters) (loop .at) (loop .inv),
+    (loop .inv .clean, (more, (the-next (args .size) (args .points) (args .words .now) (args .mask .now) (args .floats .now) (args .counters .now) (pre .0) (loop .mask) (loop .floats) (loop .counters) (loop .at) (loop .inv) more .fine, next-few (args .size) (args .points) (args .words .now) (args .mask .now) (args .floats .now) (args .counters .now) (pre .0) (loop .mask) (loop .floats) (loop .counters) (loop .at) (loop .inv) more))))
 
 loop-less : tie.Need-loop-less Inv-loop μ-loop
-loop-less c = let more = c .before .before .before .before .before .before .before .before .before .before .loop-test .taken in let n = the-next (c .before .before .before .before .before .before .before .before .before .before .before .before .before .before .before .args .size) (c .before .before .before .before .before .before .before .before .before .before .before .before .before .before .before .args .points) (c .before .before .before .before .before .before .before .before .before .before .before .before .before .before .before .args .words .now) (c .before .before .before .before .before .before .before .before .before .before .before .before .before .before .before .args .mask .now) (c .before .before .before .before .before .before .before .before .before .before .before .before .before .before .before .args .floats .now) (c .before .before .before .before .before .before .before .before .before .before .before .before .before .before .before .args .counters .now) (c .before .before .before .before .before .before .before .before .before .before .before .before .before .before .before .pre .0) (c .before .before .before .before .before .before .before .before .before .before .before .loop .mask) (c .before .before .before .before .before .before .before .before .before .before .before .loop .floats) (c .before .before .before .before .before .before .before .before .before .before .before .loop .counters) (c .before .before .before .before .before .before .before .before .before .before .before .loop .at) (c .before .before .before .before .before .before .before .before .before .before .before .loop .inv) more in let f = n .forward in let q = c .before .before .before .before .before .before .draw-group .ensures .1 .0 in omega arith
+loop-less c =
+    let args = c .before .before .before .before .before .before .before .before .before .before .before .before .before .before .before .args in
+    let pre = c .before .before .before .before .before .before .before .before .before .before .before .before .before .before .before .pre in
+    let loop = c .before .before .before .before .before .before .before .before .before .before .before .loop in
+    let loop-test = c .before .before .before .before .before .before .before .before .before .before .loop-test in
+    let draw-group = c .before .before .before .before .before .before .draw-group in
+    let more = loop-test .taken in
+    let n = the-next (args .size) (args .points) (args .words .now) (args .mask .now) (args .floats .now) (args .counters .now) (pre .0) (loop .mask) (loop .floats) (loop .counters) (loop .at) (loop .inv) more in
+    let f = n .forward in
+    let q = draw-group .ensures .1 .0 in
+    omega arith
 
 loop-again : tie.Need-loop-again Inv-loop μ-loop
-loop-again c = standing-more (c .before .before .before .before .before .before .before .before .before .before .before .before .before .before .before .args .size) (c .before .before .before .before .before .before .before .before .before .before .before .before .before .before .before .args .points) (c .before .before .before .before .before .before .before .before .before .before .before .before .before .before .before .args .words .now) (c .before .before .before .before .before .before .before .before .before .before .before .before .before .before .before .args .mask .now) (c .before .before .before .before .before .before .before .before .before .before .before .before .before .before .before .args .floats .now) (c .before .before .before .before .before .before .before .before .before .before .before .before .before .before .before .args .counters .now) (c .before .before .before .before .before .before .before .before .before .before .before .before .before .before .before .pre .0) (c .before .before .before .before .before .before .before .before .before .before .before .loop .mask) (c .before .before .before .before .before .before .before .before .before .before .before .loop .floats) (c .before .before .before .before .before .before .before .before .before .before .before .loop .counters) (c .before .before .before .before .before .before .before .before .before .before .before .loop .at) (c .before .before .before .before .before .before .before .before .before .before .before .loop .inv) (c .before .before .before .before .before .before .before .before .before .before .loop-test .taken) (c .before .before .before .before .before .before .draw-group .last .0) (c .before .before .before .before .before .before .draw-group .last .1 .0) (c .before .before .before .before .before .before .draw-group .last .1 .1 .0) (c .before .before .before .before .before .before .draw-group .result) (c .before .before .before .before .before .before .draw-group .kept .0) (c .before .before .before .before .before .before .draw-group .kept .1 .0) (c .before .before .before .before .before .before .draw-group .kept .1 .1 .0) (c .before .before .before .before .before .before .draw-group .ensures .0) (c .before .before .before .before .before .before .draw-group .ensures .1 .0) (c .before .before .before .before .before .before .draw-group .ensures .1 .1)
+loop-again c =
+    let args = c .before .before .before .before .before .before .before .before .before .before .before .before .before .before .before .args in
+    let pre = c .before .before .before .before .before .before .before .before .before .before .before .before .before .before .before .pre in
+    let loop = c .before .before .before .before .before .before .before .before .before .before .before .loop in
+    let loop-test = c .before .before .before .before .before .before .before .before .before .before .loop-test in
+    let draw-group = c .before .before .before .before .before .before .draw-group in
+    standing-more (args .size) (args .points) (args .words .now) (args .mask .now) (args .floats .now) (args .counters .now) (pre .0) (loop .mask) (loop .floats) (loop .counters) (loop .at) (loop .inv) (loop-test .taken) (draw-group .last .0) (draw-group .last .1 .0) (draw-group .last .1 .1 .0) (draw-group .result) (draw-group .kept .0) (draw-group .kept .1 .0) (draw-group .kept .1 .1 .0) (draw-group .ensures .0) (draw-group .ensures .1 .0) (draw-group .ensures .1 .1)
 
 same-length : tie.Need-same-length Inv-loop μ-loop
 same-length c = c .before .loop .inv .mask-long
@@ -36,7 +61,10 @@ same-length-3 : tie.Need-same-length-3 Inv-loop μ-loop
 same-length-3 c = c .before .loop .inv .counters-long
 
 returns : tie.Need-returns Inv-loop μ-loop
-returns c = standing-end (c .before .before .before .before .before .args .size) (c .before .before .before .before .before .args .points) (c .before .before .before .before .before .args .words .now) (c .before .before .before .before .before .args .mask .now) (c .before .before .before .before .before .args .floats .now) (c .before .before .before .before .before .args .counters .now) (c .before .before .before .before .before .pre .0) (c .before .loop .mask) (c .before .loop .floats) (c .before .loop .counters) (c .before .loop .at) (c .before .loop .inv) (c .loop-test .left)
+returns c =
+    let args = c .before .before .before .before .before .args in
+    let loop = c .before .loop in
+    standing-end (args .size) (args .points) (args .words .now) (args .mask .now) (args .floats .now) (args .counters .now) (c .before .before .before .before .before .pre .0) (loop .mask) (loop .floats) (loop .counters) (loop .at) (loop .inv) (c .loop-test .left)
 
 pub draw-groups-spec : {M : Type 1} → statement M
 draw-groups-spec =
