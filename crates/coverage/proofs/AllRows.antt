@@ -21,7 +21,7 @@ use Rattle.edge.specs.Stored.{edgesAt}
 use Rattle.edge.specs.Table.{edgesIn, activeIn, Placed, firstIn, Joining, Joined}
 use Rattle.edge.proofs.Stored.{Same, same-edges, edges-length, take-same}
 use Rattle.edge.proofs.Linking.{from-same, next-same}
-use Rattle.coverage.specs.Resolving.{wordsOf, rowsAdded, edgesRow, edgesRows, Drawable, Drawn, Tabled, Clean}
+use Rattle.coverage.specs.Resolving.{markWords, rowsAdded, edgesRow, edgesRows, Drawable, Drawn, Tabled, Clean}
 use Rattle.coverage.proofs.Rows.{rows-step, row-length, row-turn}
 use Rattle.coverage.proofs.Active.{keptOf, active-is, kept-next, few}
 
@@ -36,9 +36,9 @@ pub record AtRow (m₀ : List ℕ) (fs₀ : List Float) (cs₀ : List ℕ) (l : 
   pub floats-long : length fs ≡ length fs₀
   pub counters-long : length cs ≡ length cs₀
   pub cells : take (l .edges) fs ≡ replicate (l .edges) f0
-  pub marks : take (wordsOf (l .edges)) cs ≡ replicate (wordsOf (l .edges)) 0
-  pub heads : (r : ℕ) → row ≤ r → r < height → getD cs (wordsOf (l .edges) + r) 0 ≡ getD cs₀ (wordsOf (l .edges) + r) 0
-  pub done : (r : ℕ) → r < row → getD cs (wordsOf (l .edges) + r) 0 ≡ 0
+  pub marks : take (markWords (l .edges)) cs ≡ replicate (markWords (l .edges)) 0
+  pub heads : (r : ℕ) → row ≤ r → r < height → getD cs (markWords (l .edges) + r) 0 ≡ getD cs₀ (markWords (l .edges) + r) 0
+  pub done : (r : ℕ) → r < row → getD cs (markWords (l .edges) + r) 0 ≡ 0
   pub between : (i : ℕ) → l .edges ≤ i → i < l .active → getD fs i nan ≡ getD fs₀ i nan
   pub kept-are : activeIn fs l kept ≡ keptOf (edgesIn fs₀ l) row
   pub rows : edgesRows rule (l .edges) height (edgesIn fs₀ l) m₀
@@ -49,7 +49,7 @@ module _ (m₀ : List ℕ) (fs₀ : List Float) (cs₀ : List ℕ) (l : Layout) 
   es = edgesIn fs₀ l
 
   abbrev words : ℕ
-  words = wordsOf (l .edges)
+  words = markWords (l .edges)
 
   abbrev bytes : ℕ → List ℕ
   bytes r = edgesRow rule (l .edges) height r (activeEdges es r)

@@ -1,13 +1,18 @@
 -- A drawing, one group more at a time: from a mask of zeros, `resolve` of each group in turn gives the drawing. Assumes nothing.
-use mathlib.Core.Path.{_≡_, refl, ap, _∙_}
+use mathlib.Core.Path.{_≡_, refl, sym, ap, _∙_}
+use mathlib.Core.Bool.{Bool}
 use mathlib.Core.List.{List, [], _∷_, _++_}
 use Prim.Native.Nat.{ℕ, zero, suc, _*_}
 use lib.ListN.{length, replicate, length-replicate}
-use Rattle.words.specs.Words.{Group}
+use lib.Ieee.{Float}
+use Rattle.words.specs.Words.{Group, evenOdd}
 use Rattle.row.specs.Sweep.{addBytes}
+use Rattle.edge.specs.Edges.{edgesOf}
+use Rattle.edge.specs.Stored.{edgesAt, Pushed}
+use Rattle.edge.proofs.Stored.{take-same}
 use Rattle.coverage.specs.declared.Size.{Size}
 use Rattle.coverage.specs.Drawing.{groupRow, addGroups, drawingRow, rowsFrom, drawingOf}
-use Rattle.coverage.specs.Resolving.{rowsAdded}
+use Rattle.coverage.specs.Resolving.{Room, Clean, Holds, rowsAdded}
 use Rattle.coverage.proofs.Rows.{length-added, rows-added, rows-of-zeros}
 
 -- a mask where the groups `left` are still to be drawn
@@ -40,3 +45,19 @@ rows-alike f g e (suc n) row = ap (λ (l : List ℕ). l ++ rowsFrom f n (suc row
 pub all-drawn : (size : Size) (all : List Group) (mask : List ℕ) → Undrawn size all mask [] → mask ≡ drawingOf size all
 unfolding addGroups
 all-drawn size all mask u = u .is ∙ rows-alike (u .line) (drawingRow size all) (u .rest) (size .height) 0
+
+-- ---- before a group is resolved
+
+-- its edges were pushed behind the row's cells
+module _ (fs gs : List Float) (size : Size) (r most : ℕ) (g : Group) (p : Pushed fs gs (size .width) 0 r most (edgesOf (size .height) (g .contours))) where
+  pub group-holds : (rule : Bool) → rule ≡ evenOdd g → Holds gs size r rule g
+  unfolding edgesAt
+  group-holds rule e = record { edges = p .all; is-rule = e }
+
+  pub still-clean : (cs : List ℕ) → length gs ≡ length fs → Clean fs cs (size .width) (size .height) → Clean gs cs (size .width) (size .height)
+  still-clean cs long c = record { cells = take-same (size .width) gs fs long (p .front) ∙ c .cells; counts = c .counts }
+
+-- buffers keep their lengths
+pub room-same : {mask mask' : List ℕ} {fs fs' : List Float} {cs cs' : List ℕ} {size : Size} {points : ℕ} → length mask' ≡ length mask → length fs' ≡ length fs → length cs' ≡ length cs
+    → Room mask fs cs size points → Room mask' fs' cs' size points
+room-same a b c r = record { narrow = r .narrow; low = r .low; cells = r .cells ∙ sym a; few = r .few; scratch = rw b (r .scratch); heads = rw c (r .heads) }

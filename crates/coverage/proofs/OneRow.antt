@@ -18,15 +18,15 @@ use Rattle.edge.specs.Edges.{reachingBelow, piecesOf}
 use Rattle.edge.specs.Stored.{edgesAt}
 use Rattle.edge.specs.Table.{activeIn, Row, Pieces}
 use Rattle.edge.proofs.Stored.{same-edges, front-other}
-use Rattle.coverage.specs.Resolving.{wordsOf, edgesRow, Drawable, Drawn}
+use Rattle.coverage.specs.Resolving.{markWords, edgesRow, Drawable, Drawn}
 
 -- a row of zeros without marks can be added to
-clean-ready : (cells : List Float) (touched : List ℕ) (width : ℕ) → width ≤ 4096 → cells ≡ replicate width f0 → length touched ≡ wordsOf width → touched ≡ replicate (length touched) 0 → Ready cells touched
+clean-ready : (cells : List Float) (touched : List ℕ) (width : ℕ) → width ≤ 4096 → cells ≡ replicate width f0 → length touched ≡ markWords width → touched ≡ replicate (length touched) 0 → Ready cells touched
 clean-ready cells touched width h e w m =
     let l : length cells ≡ width = ap length e ∙ length-replicate width f0 in
     record {
       narrow = omega arith;
-      words = w ∙ ap wordsOf (sym l);
+      words = w ∙ ap markWords (sym l);
       marked = λ c b z. ap (λ (x : List Float). getD x c nan) e ∙ getD-replicate width c f0 nan (omega arith);
       summed = λ v h z. none (v + 1);
     }

@@ -20,7 +20,7 @@ use Rattle.edge.proofs.Linking.{nexts-same}
 use Rattle.edge.proofs.StartRows.{starts-below}
 use Rattle.coverage.specs.declared.Size.{Size}
 use Rattle.coverage.specs.Drawing.{groupRow}
-use Rattle.coverage.specs.Resolving.{wordsOf, Room, Clean, Holds, Stored, rowsAdded, edgesRow, edgesRows, Tabled}
+use Rattle.coverage.specs.Resolving.{markWords, Room, Clean, Holds, Stored, rowsAdded, edgesRow, edgesRows, Tabled}
 use Rattle.coverage.proofs.Rows.{rows-same}
 
 -- where the parts of the scratch stand for a list of so many points
@@ -46,7 +46,7 @@ module _ (mask : List ℕ) (fs : List Float) (cs : List ℕ) (size : Size) (poin
   height = size .height
 
   abbrev words : ℕ
-  words = wordsOf width
+  words = markWords width
 
   abbrev l : Layout
   l = layoutOf width points count

@@ -19,11 +19,11 @@ use Rattle.coverage.specs.declared.Size.{Size}
 -- ---- lent buffers
 
 -- how many words of marks a row has, and how many counters a drawing needs
-abbrev pub wordsOf : ℕ → ℕ
-wordsOf width = (width + 63) / 64 + 1
+abbrev pub markWords : ℕ → ℕ
+markWords width = (width + 63) / 64 + 1
 
-abbrev pub countersOf : ℕ → ℕ → ℕ
-countersOf width height = wordsOf width + height
+abbrev pub countersFor : ℕ → ℕ → ℕ
+countersFor width height = markWords width + height
 
 -- a mask, and scratch for a list of so many points, are long enough
 pub record Room (mask : List ℕ) (floats : List Float) (counters : List ℕ) (size : Size) (points : ℕ) : Type 0 where
@@ -32,12 +32,12 @@ pub record Room (mask : List ℕ) (floats : List Float) (counters : List ℕ) (s
   pub cells : size .width * size .height ≡ length mask
   pub few : points ≤ 2048
   pub scratch : size .width + 15 * points ≤ length floats
-  pub heads : countersOf (size .width) (size .height) ≤ length counters
+  pub heads : countersFor (size .width) (size .height) ≤ length counters
 
 -- no cell holds area, no mark is set and no row has edges: before a group is drawn, and after
 pub record Clean (floats : List Float) (counters : List ℕ) (width height : ℕ) : Type 0 where
   pub cells : take width floats ≡ replicate width f0
-  pub counts : take (countersOf width height) counters ≡ replicate (countersOf width height) 0
+  pub counts : take (countersFor width height) counters ≡ replicate (countersFor width height) 0
 
 -- ---- a group
 
@@ -73,7 +73,7 @@ pub record Drawable (floats : List Float) (touched : List ℕ) (l : Layout) (n :
   pub narrow : l .edges ≤ 4096
   pub apart : l .edges ≤ l .active
   pub room : l .active + 5 * n ≤ length floats
-  pub words : length touched ≡ wordsOf (l .edges)
+  pub words : length touched ≡ markWords (l .edges)
   pub cells : take (l .edges) floats ≡ replicate (l .edges) f0
   pub marks : touched ≡ replicate (length touched) 0
 
@@ -89,9 +89,9 @@ pub record Tabled (mask : List ℕ) (floats : List Float) (counters : List ℕ) 
   pub narrow : l .edges ≤ 4096
   pub low : height ≤ 4096
   pub bytes : l .edges * height ≡ length mask
-  pub heads : countersOf (l .edges) height ≤ length counters
+  pub heads : countersFor (l .edges) height ≤ length counters
   pub placed : Placed floats l
   pub cells : take (l .edges) floats ≡ replicate (l .edges) f0
-  pub marks : take (wordsOf (l .edges)) counters ≡ replicate (wordsOf (l .edges)) 0
-  pub head : (row : ℕ) → row < height → getD counters (wordsOf (l .edges) + row) 0 ≡ firstIn floats l row 0 (l .count)
+  pub marks : take (markWords (l .edges)) counters ≡ replicate (markWords (l .edges)) 0
+  pub head : (row : ℕ) → row < height → getD counters (markWords (l .edges) + row) 0 ≡ firstIn floats l row 0 (l .count)
   pub next : Linked floats l 0

@@ -50,7 +50,8 @@ pub fn clear_counters(counters: &mut [u64])
 
 // ---- a group
 
-// Draws one row: the pieces of its n active edges, and the line's bytes. Returns how many edges reach below it.
+// Draws one row: the pieces of its n active edges, and the line's bytes. Returns how many edges
+// reach below it.
 fn draw_row(
     line: &mut [u8],
     floats: &mut [f32],
@@ -123,7 +124,8 @@ fn draw_rows(
     }
 }
 
-// Folds the `count` edges of one group that are stored behind the row's cells into coverage, and adds it to the mask.
+// Folds the `count` edges of one group that are stored behind the row's cells into coverage, and
+// adds it to the mask.
 pub fn resolve(
     mask: &mut [u8],
     floats: &mut [f32],

@@ -7,13 +7,14 @@ use native.Mathlib.Omega.{arith}
 use lib.ListN.{length, getD}
 use lib.Ieee.{Float, nan}
 use Rattle.float.specs.Whole.{columnOf, ofWhole}
+use Rattle.row.proofs.Floor.{column-back}
 use Rattle.edge.specs.declared.Edge.{Edge}
 use Rattle.edge.specs.declared.Layout.{Layout}
 use Rattle.edge.specs.Edges.{startRow, startingIn}
 use Rattle.edge.specs.Stored.{edgeAt, edgesAt, putEdge}
 use Rattle.edge.specs.Table.{nth, edgesIn, activeIn, firstIn, listFrom, Joining, Joined}
 use Rattle.edge.proofs.Stored.{same-edge, same-edges, length-put, put-other, put-own, edges-snoc}
-use Rattle.edge.proofs.Linking.{back, first-le, gathered, leads, list-open}
+use Rattle.edge.proofs.Linking.{first-le, gathered, leads, list-open}
 
 -- n edges are active, and the row's list goes on at `at`
 pub record JoinAt (fs : List Float) (l : Layout) (kept row : ℕ) (gs : List Float) (n at : ℕ) : Type 0 where
@@ -88,7 +89,7 @@ module _ (fs : List Float) (heads : List ℕ) (l : Layout) (kept row : ℕ) (j :
             let bound = first-le (l .count - at) fs l row at in
             ap columnOf (low (l .nexts + place) (omega arith) ∙ j .next place (omega arith) h
             ∙ ap (λ (r : ℕ). ofWhole (firstIn fs l r (place + 1) (l .count - (place + 1)))) (here .1) ∙ ap (λ (k : ℕ). ofWhole (firstIn fs l row k (l .count - k))) one)
-            ∙ back (firstIn fs l row at (l .count - at)) (omega arith)
+            ∙ column-back (firstIn fs l row at (l .count - at)) (omega arith)
 
         module _ (next : ℕ) (at-next : next ≡ columnOf (getD hs (l .nexts + place) nan)) where
           is-next : next ≡ firstIn fs l row at (l .count - at)

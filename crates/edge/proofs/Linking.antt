@@ -5,24 +5,18 @@ use mathlib.Core.List.{List, _∷_}
 use Prim.Native.Nat.{ℕ, zero, suc, _+_, _*_, _-_, _≤_, _<_}
 use native.Mathlib.Omega.{arith}
 use native.Mathlib.Decide.{ℕ-discrete}
-use lib.Dec.{eqb, T}
+use lib.Dec.{eqb}
 use lib.ListN.{length, getD, set, length-set}
 use lib.Seq.{getD-set-same, getD-set-other}
-use lib.Ieee.{Float, nan, binary32, inFloat}
-use lib.Ieee.Back.{unsigned-back}
-use borrow.Author.Tests.{eqb-true, eq-eqb, ne-eqb, le-leb}
-use Rattle.float.specs.Whole.{columnOf, ofWhole}
+use lib.Ieee.{Float, nan}
+use borrow.Author.Tests.{eqb-true, eq-eqb, ne-eqb}
+use Rattle.float.specs.Whole.{ofWhole}
 use Rattle.edge.specs.declared.Edge.{Edge}
 use Rattle.edge.specs.declared.Layout.{Layout}
 use Rattle.edge.specs.Edges.{startRow, startingIn}
 use Rattle.edge.specs.Stored.{edgesAt}
 use Rattle.edge.specs.Table.{nth, Placed, firstIn, nextOf, Tabled, NextsChanged, listFrom}
 use Rattle.edge.proofs.Stored.{Same, same-edge}
-
--- a number up to 4,096 comes back from its float
-pub back : (n : ℕ) → n ≤ 4096 → columnOf (ofWhole n) ≡ n
-unfolding inFloat
-back n h = unsigned-back binary32 13 n (subst T (sym (le-leb n 16777216 (omega arith))) tt) (omega arith) .1
 
 -- ---- the first edge of a row
 

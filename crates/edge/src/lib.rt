@@ -16,7 +16,8 @@ ghost use Rattle.edge.specs.Edges.{slopedOf, startRow, atOf, pieceOf};
 ghost use Rattle.edge.specs.Stored.{edgeAt, putEdge, edgeBetween, Pushed};
 ghost use Rattle.edge.specs.Table.{nth, Placed, Tabled, NextsChanged, Joining, Joined, Kept, Row, Pieces};
 
-// An edge from its top to its bottom: x and y at the top, the y at its bottom, the change in x for each unit of y, and 1 if it was drawn downwards, -1 if upwards.
+// An edge from its top to its bottom: x and y at the top, the y at its bottom, the change in x for
+// each unit of y, and 1 if it was drawn downwards, -1 if upwards.
 pub struct Edge {
     pub x: f32,
     pub y: f32,
@@ -33,7 +34,8 @@ impl Edge {
     }
 }
 
-// Where the edges, their nexts and the active edges start in the floats, and how many edges there are. The row's cells stand before the edges.
+// Where the edges, their nexts and the active edges start in the floats, and how many edges there
+// are. The row's cells stand before the edges.
 pub struct Layout {
     pub edges: usize,
     pub nexts: usize,
@@ -100,7 +102,8 @@ fn push_down(
     count + 1
 }
 
-// Stores the edge between two points behind `count` others, unless it is level or lies outside the mask's rows. Returns how many there are now.
+// Stores the edge between two points behind `count` others, unless it is level or lies outside the
+// mask's rows. Returns how many there are now.
 pub fn push(
     floats: &mut [f32],
     edges: usize,
@@ -144,7 +147,8 @@ fn link(floats: &mut [f32], heads: &mut [u64], nexts: usize, i: usize, row: usiz
     heads[row] = (i + 1) as u64;
 }
 
-// Makes the edge table, from the last edge to the first. The heads are 0 before, and each edge starts in a row that has one.
+// Makes the edge table, from the last edge to the first. The heads are 0 before, and each edge
+// starts in a row that has one.
 pub fn table(floats: &mut [f32], heads: &mut [u64], l: Layout)
     requires { ⌜ Placed (now floats) l ⌝ }
     requires { ⌜ ((row : ℕ) → row < length (now heads) → getD (now heads) row 0 ≡ 0) ⌝ }
@@ -162,7 +166,8 @@ pub fn table(floats: &mut [f32], heads: &mut [u64], l: Layout)
 
 // ---- the active edges
 
-// Takes a row's edges out of the table and copies them behind the active ones that were kept. Returns how many are active now.
+// Takes a row's edges out of the table and copies them behind the active ones that were kept.
+// Returns how many are active now.
 pub fn join(floats: &mut [f32], heads: &mut [u64], l: Layout, kept: usize, row: usize) -> usize
     requires { ⌜ Joining (now floats) (now heads) l kept row ⌝ }
     ensures { λ r. ⌜ Joined (now (floats .entry)) (now (floats .exit)) l kept row r ⌝ }
@@ -205,7 +210,8 @@ fn keep(floats: &mut [f32], l: Layout, kept: usize, e: Edge, bottom: f32) -> usi
     kept
 }
 
-// Adds the pieces of n active edges to the row's cells, and keeps the edges that reach below the row. Returns how many these are.
+// Adds the pieces of n active edges to the row's cells, and keeps the edges that reach below the
+// row. Returns how many these are.
 pub fn pieces(
     floats: &mut [f32],
     touched: &mut [u64],

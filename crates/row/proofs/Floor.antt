@@ -17,7 +17,7 @@ use Rattle.float.specs.Whole.{integralOf, floorOf, ceilOf, columnOf, ofWhole}
 use Rattle.row.specs.Row.{ceilColumn}
 
 -- a column comes back from its float
-column-back : (n : ℕ) → n ≤ 8191 → columnOf (ofWhole n) ≡ n
+pub column-back : (n : ℕ) → n ≤ 8191 → columnOf (ofWhole n) ≡ n
 unfolding inFloat
 column-back n h = unsigned-back binary32 13 n (subst T (sym (le-leb n 16777216 (omega arith))) tt) (omega arith) .1
 

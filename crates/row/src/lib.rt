@@ -1,4 +1,4 @@
-// One row of cells: what the edges that cross it add to it, and the bytes that it comes to.
+// One row of cells, and what the edges that cross it add to it. Crate sweep makes bytes of it.
 ghost use mathlib.Core.Path.{_≡_};
 ghost use mathlib.Core.List.{map};
 ghost use Prim.Native.Nat.{_+_, _-_, _*_, _/_, _%_, _≤_, _<_, min};
@@ -94,7 +94,8 @@ fn single(cells: &mut [f32], touched: &mut [u64], cell: usize, middle: f32, area
     add(cells, touched, cell + 1, area * middle);
 }
 
-// What a piece across cells adds between its first cell and its last: `enters` is the width that it has in the first.
+// What a piece across cells adds between its first cell and its last: `enters` is the width that
+// it has in the first.
 fn between(
     cells: &mut [f32],
     touched: &mut [u64],
