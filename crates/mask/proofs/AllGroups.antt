@@ -12,8 +12,7 @@ use Rattle.words.proofs.Places.{fine-read, Left, left-start, left-end, NextGrou
 use Rattle.coverage.specs.declared.Size.{Size}
 use Rattle.coverage.specs.Drawing.{groupRow, drawingOf}
 use Rattle.coverage.specs.Resolving.{Room, Clean, rowsAdded}
-use Rattle.coverage.proofs.Groups.{Undrawn, none-drawn, group-drawn, all-drawn}
-use Rattle.mask.proofs.OneGroup.{room-same}
+use Rattle.coverage.proofs.Groups.{Undrawn, none-drawn, group-drawn, all-drawn, room-same}
 
 points-in : (g : Group) (gs : List Group) → pointsIn (g ∷ gs) ≡ groupPoints g + pointsIn gs
 unfolding pointsIn
@@ -52,7 +51,7 @@ module _ (size : Size) (points : ℕ) (ws : List ℤ) (mask₀ : List ℕ) (fs�
 
   module _ (mask : List ℕ) (fs : List Float) (cs : List ℕ) (at : ℕ) (s : S mask fs cs at) where
     pub standing-room : Room mask fs cs size points
-    standing-room = room-same size points mask₀ mask fs₀ fs cs₀ cs room (s .mask-long) (s .floats-long) (s .counters-long)
+    standing-room = room-same (s .mask-long) (s .floats-long) (s .counters-long) room
 
     pub standing-end : length ws ≤ at → mask ≡ drawingOf size (groupsOf ws)
     standing-end h = all-drawn size (groupsOf ws) mask (subst (Undrawn size (groupsOf ws) mask) (left-end ws at (s .groups) h (s .left)) (s .undrawn))

@@ -8,10 +8,10 @@ use lib.Seq.{length-take-le}
 use lib.Ieee.{Float}
 use Rattle.float.specs.Ops.{f0}
 use Rattle.coverage.specs.declared.Size.{Size}
-use Rattle.coverage.specs.Resolving.{Room, Clean, countersOf}
-use Rattle.mask.proofs.OneGroup.{room-same}
+use Rattle.coverage.specs.Resolving.{Room, Clean, countersFor}
+use Rattle.coverage.proofs.Groups.{room-same}
 
-take-front : {A : Type 0} (xs ys : List A) → take (length xs) (xs ++ ys) ≡ xs
+pub take-front : {A : Type 0} (xs ys : List A) → take (length xs) (xs ++ ys) ≡ xs
 take-front [] ys = refl
 take-front (x ∷ xs) ys = ap (λ l. x ∷ l) (take-front xs ys)
 
@@ -37,12 +37,12 @@ module _ (mask : List ℕ) (fs : List Float) (cs : List ℕ) (size : Size) (poin
     mask-long = ap length m ∙ length-replicate (length mask) 0
 
     pub cleared-room : Room mask₂ (zs ++ drop (size .width) fs) ds size points
-    cleared-room = room-same size points mask mask₂ fs (zs ++ drop (size .width) fs) cs ds room mask-long floats-long counters-long
+    cleared-room = room-same mask-long floats-long counters-long room
 
     pub cleared-clean : Clean (zs ++ drop (size .width) fs) ds (size .width) (size .height)
     cleared-clean = record {
       cells = ap (λ (n : ℕ). take n (zs ++ drop (size .width) fs)) (sym zs-long) ∙ take-front zs (drop (size .width) fs) ∙ z ∙ ap (λ (n : ℕ). replicate n f0) (sym prefix);
-      counts = ap (take (countersOf (size .width) (size .height))) d ∙ alike (countersOf (size .width) (size .height)) (room .heads);
+      counts = ap (take (countersFor (size .width) (size .height))) d ∙ alike (countersFor (size .width) (size .height)) (room .heads);
     }
       where
         alike : (n : ℕ) → n ≤ length cs → take n (replicate (length cs) 0) ≡ replicate {A = ℕ} n 0

@@ -16,23 +16,10 @@ use Rattle.words.specs.Words.{Point, Group, evenOdd, isZero, readContours, read
 use Rattle.words.specs.Scan.{Fine, endOf, noGroup, groupPoints}
 use Rattle.words.proofs.Places.{GroupThere, group-there}
 use Rattle.edge.specs.Edges.{edgesOf}
-use Rattle.edge.specs.Stored.{edgesAt, Pushed}
-use Rattle.edge.proofs.Stored.{take-same}
+use Rattle.edge.specs.Stored.{Pushed}
+use Rattle.coverage.proofs.Groups.{group-holds, still-clean, room-same}
 use Rattle.coverage.specs.declared.Size.{Size}
 use Rattle.coverage.specs.Resolving.{Room, Clean, Holds, Stored}
-
--- room goes by lengths
-pub room-same : (size : Size) (points : ℕ) (mask mask₂ : List ℕ) (fs gs : List Float) (cs ds : List ℕ) → Room mask fs cs size points
-    → length mask₂ ≡ length mask → length gs ≡ length fs → length ds ≡ length cs → Room mask₂ gs ds size points
-room-same size points mask mask₂ fs gs cs ds r a b c =
-    let x = r .cells in
-    let y = r .scratch in
-    let z = r .heads in
-    record { narrow = r .narrow; low = r .low; cells = x ∙ sym a; few = r .few; scratch = omega arith; heads = rw c z }
-
-no-edges : (fs : List Float) (at : ℕ) → edgesAt fs at 0 ≡ []
-unfolding edgesAt
-no-edges fs at = refl
 
 -- a group at a place, whose contours are n by their count word
 module _ (mask : List ℕ) (fs : List Float) (cs : List ℕ) (size : Size) (points : ℕ) (ws : List ℤ) (at : ℕ) (room : Room mask fs cs size points)
@@ -61,13 +48,13 @@ module _ (mask : List ℕ) (fs : List Float) (cs : List ℕ) (size : Size) (poin
     stored-few = let a = few-points in let b = p .few in omega arith
 
     pub stored-clean : Clean fs cs (size .width) (size .height) → Clean gs cs (size .width) (size .height)
-    stored-clean c = record { cells = take-same (size .width) gs fs long (p .front) ∙ c .cells; counts = c .counts }
+    stored-clean c = still-clean fs gs size count (pointsOf contours) (record { rule = getD ws at (pos 0); contours = contours }) p cs long c
 
     pub stored-room : Room mask gs cs size points
-    stored-room = room-same size points mask mask fs gs cs cs room refl long refl
+    stored-room = room-same refl long refl room
 
     pub holds : (rule : Bool) → rule ≡ not (isZero (getD ws at (pos 0))) → Holds gs size count rule (readOr noGroup (readGroup 0 (drop at ws)))
-    holds rule e = rw whole (record { edges = p .all ∙ ap (λ es. es ++ edgesOf (size .height) contours) (no-edges fs (size .width)); is-rule = e })
+    holds rule e = rw whole (group-holds fs gs size count (pointsOf contours) (record { rule = getD ws at (pos 0); contours = contours }) p rule e)
 
     pub stored : (rule : Bool) → rule ≡ not (isZero (getD ws at (pos 0))) → Stored gs size count rule
     stored rule e = record { group = readOr noGroup (readGroup 0 (drop at ws)); holds = holds rule e }

@@ -73,9 +73,10 @@ loop-holds c =
     let coordinate-at = c .before .coordinate-at in
     let coordinate-at2 = c .coordinate-at2 in
     let h = positive (args .n) (c .before .before .if1 .left) in
-    let e : args .at + 2 * args .n - 1 ≡ args .at + 2 * args .n - 2 + 1 = omega arith in
-    (refl,
-    walk-start (args .height) (args .words .now) (args .at) (args .n) (args .floats .now) (args .edges) (args .stored) h (coordinate-at .result) (coordinate-at2 .result) (coordinate-at .ensures) (coordinate-at2 .ensures ∙ ap (λ (k : ℕ). coordinateOf (getD (args .words .now) k (pos 0))) e))
+    let e : args .at + 2 * args .n - 1 ≡ args .at + 2 * args .n - 2 + 1 = omega arith in (
+      refl,
+      walk-start (args .height) (args .words .now) (args .at) (args .n) (args .floats .now) (args .edges) (args .stored) h (coordinate-at .result) (coordinate-at2 .result) (coordinate-at .ensures) (coordinate-at2 .ensures ∙ ap (λ (k : ℕ). coordinateOf (getD (args .words .now) k (pos 0))) e),
+    )
 
 coordinate-at-requires-3 : tie.Need-coordinate-at-requires-3 Inv-loop μ-loop
 coordinate-at-requires-3 c κs =
@@ -146,9 +147,10 @@ loop-again c =
     let loop-test = c .before .before .before .before .before .before .loop-test in
     let coordinate-at3 = c .before .before .before .before .before .coordinate-at3 in
     let coordinate-at4 = c .before .before .before .before .coordinate-at4 in
-    let push = c .before .before .push in
-    (push .kept .0 ∙ loop .inv .0,
-    walk-more (args .height) (args .words .now) (args .at) (args .n) (args .floats .now) (args .edges) (args .stored) (loop .next) (loop .floats) (loop .x) (loop .y) (loop .count) (loop .inv .1) (loop-test .taken) (push .last .0) (push .result) (coordinate-at3 .result) (coordinate-at4 .result) (coordinate-at3 .ensures) (coordinate-at4 .ensures) (push .ensures))
+    let push = c .before .before .push in (
+      push .kept .0 ∙ loop .inv .0,
+      walk-more (args .height) (args .words .now) (args .at) (args .n) (args .floats .now) (args .edges) (args .stored) (loop .next) (loop .floats) (loop .x) (loop .y) (loop .count) (loop .inv .1) (loop-test .taken) (push .last .0) (push .result) (coordinate-at3 .result) (coordinate-at4 .result) (coordinate-at3 .ensures) (coordinate-at4 .ensures) (push .ensures),
+    )
 
 same-length : tie.Need-same-length Inv-loop μ-loop
 same-length c = c .before .loop .inv .0

@@ -59,9 +59,10 @@ contour-requires c κs =
     let count-at = c .before .before .before .before .count-at in
     let points-known = c .before .before .points in
     let nc = next-contour (loop .left) (args .words .now) (loop .at) (c .before .before .before .before .before .loop-test .taken) (loop .inv .fine) in
-    let e = same-count (count-at .result) (points-known .given .0 .0) (nc .count) (points-known .given .1) (count-at .ensures ∙ nc .read) in
-    (next-fine (args .height) (args .words .now) (args .from) (args .n) (args .floats .now) (args .edges) (loop .floats) (loop .at) (loop .count) (loop .left) (loop .inv) (points-known .given .0 .0) nc e,
-    (next-room (args .height) (args .words .now) (args .from) (args .n) (args .floats .now) (args .edges) (loop .floats) (loop .at) (loop .count) (loop .left) (loop .inv) (points-known .given .0 .0) nc e (pre .1 .1 .0), pre .1 .1 .1))
+    let e = same-count (count-at .result) (points-known .given .0 .0) (nc .count) (points-known .given .1) (count-at .ensures ∙ nc .read) in (
+      next-fine (args .height) (args .words .now) (args .from) (args .n) (args .floats .now) (args .edges) (loop .floats) (loop .at) (loop .count) (loop .left) (loop .inv) (points-known .given .0 .0) nc e,
+      (next-room (args .height) (args .words .now) (args .from) (args .n) (args .floats .now) (args .edges) (loop .floats) (loop .at) (loop .count) (loop .left) (loop .inv) (points-known .given .0 .0) nc e (pre .1 .1 .0), pre .1 .1 .1),
+    )
 
 add-at : tie.Need-add-at Inv-loop μ-loop
 add-at c =

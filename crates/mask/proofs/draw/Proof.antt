@@ -32,9 +32,10 @@ draw-groups-requires c κs =
     let pre = c .before .before .before .before .before .before .before .before .before .before .before .before .before .before .before .before .before .before .pre in
     let clear-bytes = c .before .before .before .before .before .before .before .before .before .before .before .before .before .clear-bytes in
     let clear-floats = c .before .before .before .before .before .before .before .before .before .clear-floats in
-    let clear-counters = c .before .before .before .before .before .clear-counters in
-    (cleared-room (args .mask .now) (args .floats .now) (args .counters .now) (args .size) (args .points) (pre .0) (clear-bytes .last .0) (clear-floats .last .0) (clear-counters .last .0) (clear-bytes .ensures) (clear-floats .ensures) (clear-counters .ensures),
-    (cleared-clean (args .mask .now) (args .floats .now) (args .counters .now) (args .size) (args .points) (pre .0) (clear-bytes .last .0) (clear-floats .last .0) (clear-counters .last .0) (clear-bytes .ensures) (clear-floats .ensures) (clear-counters .ensures), (cleared-zeros (args .mask .now) (args .floats .now) (args .counters .now) (args .size) (args .points) (pre .0) (clear-bytes .last .0) (clear-floats .last .0) (clear-counters .last .0) (clear-bytes .ensures) (clear-floats .ensures) (clear-counters .ensures), (pre .1 .0, pre .1 .1))))
+    let clear-counters = c .before .before .before .before .before .clear-counters in (
+      cleared-room (args .mask .now) (args .floats .now) (args .counters .now) (args .size) (args .points) (pre .0) (clear-bytes .last .0) (clear-floats .last .0) (clear-counters .last .0) (clear-bytes .ensures) (clear-floats .ensures) (clear-counters .ensures),
+      (cleared-clean (args .mask .now) (args .floats .now) (args .counters .now) (args .size) (args .points) (pre .0) (clear-bytes .last .0) (clear-floats .last .0) (clear-counters .last .0) (clear-bytes .ensures) (clear-floats .ensures) (clear-counters .ensures), (cleared-zeros (args .mask .now) (args .floats .now) (args .counters .now) (args .size) (args .points) (pre .0) (clear-bytes .last .0) (clear-floats .last .0) (clear-counters .last .0) (clear-bytes .ensures) (clear-floats .ensures) (clear-counters .ensures), (pre .1 .0, pre .1 .1))),
+    )
 
 clear-floats-requires-2 : tie.Need-clear-floats-requires-2
 clear-floats-requires-2 c κs = search needs
@@ -59,9 +60,10 @@ returns c =
     let clear-floats = c .before .before .before .before .before .before .before .before .before .before .before .before .before .before .before .before .before .before .before .before .before .before .before .before .clear-floats in
     let clear-counters = c .before .before .before .before .before .before .before .before .before .before .before .before .before .before .before .before .before .before .before .before .clear-counters in
     let draw-groups = c .before .before .before .before .before .before .before .before .before .before .before .before .before .before .draw-groups in
-    let clear-floats2 = c .before .before .before .before .before .before .clear-floats2 in
-    (draw-groups .ensures,
-    (clear-floats2 .ensures ∙ ap (λ (n : ℕ). replicate n f0) (draw-groups .kept .1 .0 ∙ floats-long (args .mask .now) (args .floats .now) (args .counters .now) (args .size) (args .points) (pre .0) (clear-bytes .last .0) (clear-floats .last .0) (clear-counters .last .0) (clear-bytes .ensures) (clear-floats .ensures) (clear-counters .ensures)), c .before .before .clear-counters2 .ensures ∙ ap (λ (n : ℕ). replicate n 0) (draw-groups .kept .1 .1 .0 ∙ counters-long (args .mask .now) (args .floats .now) (args .counters .now) (args .size) (args .points) (pre .0) (clear-bytes .last .0) (clear-floats .last .0) (clear-counters .last .0) (clear-bytes .ensures) (clear-floats .ensures) (clear-counters .ensures))))
+    let clear-floats2 = c .before .before .before .before .before .before .clear-floats2 in (
+      draw-groups .ensures,
+      (clear-floats2 .ensures ∙ ap (λ (n : ℕ). replicate n f0) (draw-groups .kept .1 .0 ∙ floats-long (args .mask .now) (args .floats .now) (args .counters .now) (args .size) (args .points) (pre .0) (clear-bytes .last .0) (clear-floats .last .0) (clear-counters .last .0) (clear-bytes .ensures) (clear-floats .ensures) (clear-counters .ensures)), c .before .before .clear-counters2 .ensures ∙ ap (λ (n : ℕ). replicate n 0) (draw-groups .kept .1 .1 .0 ∙ counters-long (args .mask .now) (args .floats .now) (args .counters .now) (args .size) (args .points) (pre .0) (clear-bytes .last .0) (clear-floats .last .0) (clear-counters .last .0) (clear-bytes .ensures) (clear-floats .ensures) (clear-counters .ensures))),
+    )
 
 pub draw-spec : {M : Type 1} → statement M
 draw-spec =

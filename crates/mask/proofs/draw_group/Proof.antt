@@ -51,9 +51,10 @@ contours-requires c κs =
     let count-at = c .before .before .before .before .count-at in
     let n-known = c .before .before .n in
     let there = group-there (args .words .now) (args .at) (pre .1 .1 .0) (pre .1 .1 .1 .0) in
-    let e = same-count (count-at .result) (n-known .given .0 .0) (there .count) (n-known .given .1) (count-at .ensures ∙ there .read) in
-    (contours-fine (args .mask .now) (args .floats .now) (args .counters .now) (args .size) (args .points) (args .words .now) (args .at) (pre .0) (pre .1 .1 .1 .1) there (n-known .given .0 .0) e,
-    (there .within, (contours-room (args .mask .now) (args .floats .now) (args .counters .now) (args .size) (args .points) (args .words .now) (args .at) (pre .0) (pre .1 .1 .1 .1) there (n-known .given .0 .0) e, pre .0 .low)))
+    let e = same-count (count-at .result) (n-known .given .0 .0) (there .count) (n-known .given .1) (count-at .ensures ∙ there .read) in (
+      contours-fine (args .mask .now) (args .floats .now) (args .counters .now) (args .size) (args .points) (args .words .now) (args .at) (pre .0) (pre .1 .1 .1 .1) there (n-known .given .0 .0) e,
+      (there .within, (contours-room (args .mask .now) (args .floats .now) (args .counters .now) (args .size) (args .points) (args .words .now) (args .at) (pre .0) (pre .1 .1 .1 .1) there (n-known .given .0 .0) e, pre .0 .low)),
+    )
 
 mul-resolve : tie.Need-mul-resolve
 mul-resolve c = search needs
@@ -69,9 +70,10 @@ resolve-requires c κs =
     let n-known = c .before .before .before .before .before .before .before .before .before .n in
     let contours = c .before .before .before .before .before .before .contours in
     let there = group-there (args .words .now) (args .at) (pre .1 .1 .0) (pre .1 .1 .1 .0) in
-    let e = same-count (count-at .result) (n-known .given .0 .0) (there .count) (n-known .given .1) (count-at .ensures ∙ there .read) in
-    (stored-room (args .mask .now) (args .floats .now) (args .counters .now) (args .size) (args .points) (args .words .now) (args .at) (pre .0) (pre .1 .1 .1 .1) there (n-known .given .0 .0) e (contours .last .1 .1 .1 .0) (contours .result .count) (contours .kept .1 .1 .1 .0) (contours .ensures .0),
-    (stored-clean (args .mask .now) (args .floats .now) (args .counters .now) (args .size) (args .points) (args .words .now) (args .at) (pre .0) (pre .1 .1 .1 .1) there (n-known .given .0 .0) e (contours .last .1 .1 .1 .0) (contours .result .count) (contours .kept .1 .1 .1 .0) (contours .ensures .0) (pre .1 .0), (stored-few (args .mask .now) (args .floats .now) (args .counters .now) (args .size) (args .points) (args .words .now) (args .at) (pre .0) (pre .1 .1 .1 .1) there (n-known .given .0 .0) e (contours .last .1 .1 .1 .0) (contours .result .count) (contours .kept .1 .1 .1 .0) (contours .ensures .0), stored (args .mask .now) (args .floats .now) (args .counters .now) (args .size) (args .points) (args .words .now) (args .at) (pre .0) (pre .1 .1 .1 .1) there (n-known .given .0 .0) e (contours .last .1 .1 .1 .0) (contours .result .count) (contours .kept .1 .1 .1 .0) (contours .ensures .0) (not (eqb (ofZ w32 (getD (args .words .now) (args .at) (pos 0))) 0)) (ap not (zero-word (getD (args .words .now) (args .at) (pos 0)) (sfits-of (c .resolve-arg4 .given)))))))
+    let e = same-count (count-at .result) (n-known .given .0 .0) (there .count) (n-known .given .1) (count-at .ensures ∙ there .read) in (
+      stored-room (args .mask .now) (args .floats .now) (args .counters .now) (args .size) (args .points) (args .words .now) (args .at) (pre .0) (pre .1 .1 .1 .1) there (n-known .given .0 .0) e (contours .last .1 .1 .1 .0) (contours .result .count) (contours .kept .1 .1 .1 .0) (contours .ensures .0),
+      (stored-clean (args .mask .now) (args .floats .now) (args .counters .now) (args .size) (args .points) (args .words .now) (args .at) (pre .0) (pre .1 .1 .1 .1) there (n-known .given .0 .0) e (contours .last .1 .1 .1 .0) (contours .result .count) (contours .kept .1 .1 .1 .0) (contours .ensures .0) (pre .1 .0), (stored-few (args .mask .now) (args .floats .now) (args .counters .now) (args .size) (args .points) (args .words .now) (args .at) (pre .0) (pre .1 .1 .1 .1) there (n-known .given .0 .0) e (contours .last .1 .1 .1 .0) (contours .result .count) (contours .kept .1 .1 .1 .0) (contours .ensures .0), stored (args .mask .now) (args .floats .now) (args .counters .now) (args .size) (args .points) (args .words .now) (args .at) (pre .0) (pre .1 .1 .1 .1) there (n-known .given .0 .0) e (contours .last .1 .1 .1 .0) (contours .result .count) (contours .kept .1 .1 .1 .0) (contours .ensures .0) (not (eqb (ofZ w32 (getD (args .words .now) (args .at) (pos 0))) 0)) (ap not (zero-word (getD (args .words .now) (args .at) (pos 0)) (sfits-of (c .resolve-arg4 .given)))))),
+    )
 
 same-length : tie.Need-same-length
 same-length c = search needs
@@ -92,9 +94,10 @@ returns-2 c =
     let resolve-arg4 = c .before .before .before .before .before .before .before .resolve-arg4 in
     let resolve = c .before .before .before .before .before .before .resolve in
     let there = group-there (args .words .now) (args .at) (pre .1 .1 .0) (pre .1 .1 .1 .0) in
-    let e = same-count (count-at .result) (n-known .given .0 .0) (there .count) (n-known .given .1) (count-at .ensures ∙ there .read) in
-    (resolve .ensures .0 (readOr noGroup (readGroup 0 (drop (args .at) (args .words .now)))) (holds (args .mask .now) (args .floats .now) (args .counters .now) (args .size) (args .points) (args .words .now) (args .at) (pre .0) (pre .1 .1 .1 .1) there (n-known .given .0 .0) e (contours .last .1 .1 .1 .0) (contours .result .count) (contours .kept .1 .1 .1 .0) (contours .ensures .0) (not (eqb (ofZ w32 (getD (args .words .now) (args .at) (pos 0))) 0)) (ap not (zero-word (getD (args .words .now) (args .at) (pos 0)) (sfits-of (resolve-arg4 .given))))),
-    (contours .ensures .1 ∙ contours-end (args .mask .now) (args .floats .now) (args .counters .now) (args .size) (args .points) (args .words .now) (args .at) (pre .0) (pre .1 .1 .1 .1) there (n-known .given .0 .0) e, resolve .ensures .1))
+    let e = same-count (count-at .result) (n-known .given .0 .0) (there .count) (n-known .given .1) (count-at .ensures ∙ there .read) in (
+      resolve .ensures .0 (readOr noGroup (readGroup 0 (drop (args .at) (args .words .now)))) (holds (args .mask .now) (args .floats .now) (args .counters .now) (args .size) (args .points) (args .words .now) (args .at) (pre .0) (pre .1 .1 .1 .1) there (n-known .given .0 .0) e (contours .last .1 .1 .1 .0) (contours .result .count) (contours .kept .1 .1 .1 .0) (contours .ensures .0) (not (eqb (ofZ w32 (getD (args .words .now) (args .at) (pos 0))) 0)) (ap not (zero-word (getD (args .words .now) (args .at) (pos 0)) (sfits-of (resolve-arg4 .given))))),
+      (contours .ensures .1 ∙ contours-end (args .mask .now) (args .floats .now) (args .counters .now) (args .size) (args .points) (args .words .now) (args .at) (pre .0) (pre .1 .1 .1 .1) there (n-known .given .0 .0) e, resolve .ensures .1),
+    )
 
 pub draw-group-spec : {M : Type 1} → statement M
 draw-group-spec =

@@ -25,9 +25,10 @@ draw-group-requires c κs =
     let args = c .before .before .before .before .before .before .before .before .args in
     let pre = c .before .before .before .before .before .before .before .before .pre in
     let loop = c .before .before .before .before .loop in
-    let more = c .before .before .before .loop-test .taken in
-    (standing-room (args .size) (args .points) (args .words .now) (args .mask .now) (args .floats .now) (args .counters .now) (pre .0) (loop .mask) (loop .floats) (loop .counters) (loop .at) (loop .inv),
-    (loop .inv .clean, (more, (the-next (args .size) (args .points) (args .words .now) (args .mask .now) (args .floats .now) (args .counters .now) (pre .0) (loop .mask) (loop .floats) (loop .counters) (loop .at) (loop .inv) more .fine, next-few (args .size) (args .points) (args .words .now) (args .mask .now) (args .floats .now) (args .counters .now) (pre .0) (loop .mask) (loop .floats) (loop .counters) (loop .at) (loop .inv) more))))
+    let more = c .before .before .before .loop-test .taken in (
+      standing-room (args .size) (args .points) (args .words .now) (args .mask .now) (args .floats .now) (args .counters .now) (pre .0) (loop .mask) (loop .floats) (loop .counters) (loop .at) (loop .inv),
+      (loop .inv .clean, (more, (the-next (args .size) (args .points) (args .words .now) (args .mask .now) (args .floats .now) (args .counters .now) (pre .0) (loop .mask) (loop .floats) (loop .counters) (loop .at) (loop .inv) more .fine, next-few (args .size) (args .points) (args .words .now) (args .mask .now) (args .floats .now) (args .counters .now) (pre .0) (loop .mask) (loop .floats) (loop .counters) (loop .at) (loop .inv) more))),
+    )
 
 loop-less : tie.Need-loop-less Inv-loop μ-loop
 loop-less c =

@@ -19,9 +19,10 @@ add-if1 c = search needs
 returns : tie.Need-returns
 returns c =
     let args = c .before .before .before .before .args in
-    let pre = c .before .before .before .before .pre in
-    (floats-short (args .size) (record { mask = length (args .mask .now); floats = length (args .floats .now); counters = length (args .counters .now) }) (args .words .now) (args .points) (pre .1 .0) (pre .1 .1 .0) (c .if1 .taken),
-    (refl, (refl, refl)))
+    let pre = c .before .before .before .before .pre in (
+      floats-short (args .size) (record { mask = length (args .mask .now); floats = length (args .floats .now); counters = length (args .counters .now) }) (args .words .now) (args .points) (pre .1 .0) (pre .1 .1 .0) (c .if1 .taken),
+      (refl, (refl, refl)),
+    )
 
 add-if2 : tie.Need-add-if2
 add-if2 c = search needs
@@ -35,9 +36,10 @@ add-if2-3 c = search needs
 returns-2 : tie.Need-returns-2
 returns-2 c =
     let args = c .before .before .before .before .before .args in
-    let pre = c .before .before .before .before .before .pre in
-    (counters-short (args .size) (record { mask = length (args .mask .now); floats = length (args .floats .now); counters = length (args .counters .now) }) (args .words .now) (args .points) (pre .1 .0) (pre .1 .1 .0) (c .if2 .taken),
-    (refl, (refl, refl)))
+    let pre = c .before .before .before .before .before .pre in (
+      counters-short (args .size) (record { mask = length (args .mask .now); floats = length (args .floats .now); counters = length (args .counters .now) }) (args .words .now) (args .points) (pre .1 .0) (pre .1 .1 .0) (c .if2 .taken),
+      (refl, (refl, refl)),
+    )
 
 mul-cells : tie.Need-mul-cells
 mul-cells c = search needs
@@ -54,9 +56,10 @@ slice-aggregate-draw c =
 draw-requires : tie.Need-draw-requires
 draw-requires c κs =
     let args = c .before .before .before .before .before .before .before .before .args in
-    let pre = c .before .before .before .before .before .before .before .before .pre in
-    (room-there (args .size) (args .points) (args .mask .now) (args .floats .now) (args .counters .now) (pre .0 .0) (pre .0 .1) (pre .1 .1 .1) (pre .0 .2) (c .before .before .before .before .if1 .left) (c .before .before .before .if2 .left),
-    (pre .1 .0, (let e = pre .1 .1 .0 in omega arith)))
+    let pre = c .before .before .before .before .before .before .before .before .pre in (
+      room-there (args .size) (args .points) (args .mask .now) (args .floats .now) (args .counters .now) (pre .0 .0) (pre .0 .1) (pre .1 .1 .1) (pre .0 .2) (c .before .before .before .before .if1 .left) (c .before .before .before .if2 .left),
+      (pre .1 .0, (let e = pre .1 .1 .0 in omega arith)),
+    )
 
 same-length : tie.Need-same-length
 same-length c = search needs
@@ -73,9 +76,10 @@ returns-3 c =
     let pre = c .before .before .before .before .before .before .before .before .before .before .before .before .before .before .before .pre in
     let if1 = c .before .before .before .before .before .before .before .before .before .before .before .if1 in
     let if2 = c .before .before .before .before .before .before .before .before .before .before .if2 in
-    let draw = c .before .before .before .before .before .before .draw in
-    (scratch-enough (args .size) (record { mask = length (args .mask .now); floats = length (args .floats .now); counters = length (args .counters .now) }) (args .words .now) (args .points) (pre .1 .0) (pre .1 .1 .0) (if1 .left) (if2 .left),
-    (ap (λ (l : List ℕ). l ++ drop (cellsOf (args .size)) (args .mask .now)) (draw .ensures .0), (draw .ensures .1 .0, draw .ensures .1 .1)))
+    let draw = c .before .before .before .before .before .before .draw in (
+      scratch-enough (args .size) (record { mask = length (args .mask .now); floats = length (args .floats .now); counters = length (args .counters .now) }) (args .words .now) (args .points) (pre .1 .0) (pre .1 .1 .0) (if1 .left) (if2 .left),
+      (ap (λ (l : List ℕ). l ++ drop (cellsOf (args .size)) (args .mask .now)) (draw .ensures .0), (draw .ensures .1 .0, draw .ensures .1 .1)),
+    )
 
 pub draw-in-spec : {M : Type 1} → statement M
 draw-in-spec =

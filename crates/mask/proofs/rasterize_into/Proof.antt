@@ -12,15 +12,17 @@ use Rattle.mask.proofs.rasterize_into.Tie as tie
 
 returns : tie.Need-returns
 returns c =
-    let args = c .before .before .before .before .before .args in
-    (too-wide (args .size) (args .words .now) (record { mask = length (args .mask .now); floats = length (args .floats .now); counters = length (args .counters .now) }) (c .if1 .taken),
-    (refl, (refl, refl)))
+    let args = c .before .before .before .before .before .args in (
+      too-wide (args .size) (args .words .now) (record { mask = length (args .mask .now); floats = length (args .floats .now); counters = length (args .counters .now) }) (c .if1 .taken),
+      (refl, (refl, refl)),
+    )
 
 returns-2 : tie.Need-returns-2
 returns-2 c =
-    let args = c .before .before .before .before .before .before .before .args in
-    (too-high (args .size) (args .words .now) (record { mask = length (args .mask .now); floats = length (args .floats .now); counters = length (args .counters .now) }) (c .if2 .taken),
-    (refl, (refl, refl)))
+    let args = c .before .before .before .before .before .before .before .args in (
+      too-high (args .size) (args .words .now) (record { mask = length (args .mask .now); floats = length (args .floats .now); counters = length (args .counters .now) }) (c .if2 .taken),
+      (refl, (refl, refl)),
+    )
 
 mul-if3 : tie.Need-mul-if3
 mul-if3 c =
@@ -30,9 +32,10 @@ mul-if3 c =
 
 returns-3 : tie.Need-returns-3
 returns-3 c =
-    let args = c .before .before .before .before .before .before .before .before .before .args in
-    (mask-short (args .size) (args .words .now) (record { mask = length (args .mask .now); floats = length (args .floats .now); counters = length (args .counters .now) }) (c .before .before .before .before .if1 .left) (c .before .before .if2 .left) (c .if3 .taken),
-    (refl, (refl, refl)))
+    let args = c .before .before .before .before .before .before .before .before .before .args in (
+      mask-short (args .size) (args .words .now) (record { mask = length (args .mask .now); floats = length (args .floats .now); counters = length (args .counters .now) }) (c .before .before .before .before .if1 .left) (c .before .before .if2 .left) (c .if3 .taken),
+      (refl, (refl, refl)),
+    )
 
 read-words-requires : tie.Need-read-words-requires
 read-words-requires c κs = search needs
@@ -59,9 +62,10 @@ returns-4 c =
     let args = c .before .before .before .before .before .before .before .before .before .before .before .before .before .args in
     let if1 = c .before .before .before .before .before .before .before .before .if1 in
     let if2 = c .before .before .before .before .before .before .if2 in
-    let f-known = c .before .f in
-    (list-fault (args .size) (args .words .now) (record { mask = length (args .mask .now); floats = length (args .floats .now); counters = length (args .counters .now) }) (if1 .left) (if2 .left) (c .before .before .before .before .if3 .left) (f-known .given .0 .0) (sym (c .before .before .before .read-words .ensures) ∙ f-known .given .1),
-    (refl, (refl, refl)))
+    let f-known = c .before .f in (
+      list-fault (args .size) (args .words .now) (record { mask = length (args .mask .now); floats = length (args .floats .now); counters = length (args .counters .now) }) (if1 .left) (if2 .left) (c .before .before .before .before .if3 .left) (f-known .given .0 .0) (sym (c .before .before .before .read-words .ensures) ∙ f-known .given .1),
+      (refl, (refl, refl)),
+    )
 
 same-length : tie.Need-same-length
 same-length c = search needs
@@ -78,9 +82,10 @@ returns-5 c =
     let if1 = c .before .before .before .before .before .before .before .before .before .before .before .before .before .before .before .before .before .before .if1 in
     let if2 = c .before .before .before .before .before .before .before .before .before .before .before .before .before .before .before .before .if2 in
     let if3 = c .before .before .before .before .before .before .before .before .before .before .before .before .before .before .if3 in
-    let draw-in = c .before .before .before .before .before .before .draw-in in
-    (draw-in .ensures .0 ∙ then-list (args .size) (args .words .now) (record { mask = length (args .mask .now); floats = length (args .floats .now); counters = length (args .counters .now) }) (if1 .left) (if2 .left) (if3 .left),
-    (draw-in .ensures .1 .0, (draw-in .ensures .1 .1 .0, draw-in .ensures .1 .1 .1)))
+    let draw-in = c .before .before .before .before .before .before .draw-in in (
+      draw-in .ensures .0 ∙ then-list (args .size) (args .words .now) (record { mask = length (args .mask .now); floats = length (args .floats .now); counters = length (args .counters .now) }) (if1 .left) (if2 .left) (if3 .left),
+      (draw-in .ensures .1 .0, (draw-in .ensures .1 .1 .0, draw-in .ensures .1 .1 .1)),
+    )
 
 pub rasterize-into-spec : {M : Type 1} → statement M
 rasterize-into-spec =
