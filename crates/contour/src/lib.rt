@@ -1,0 +1,90 @@
+// The contours of a group, read from a word list that was checked: their edges, stored in lent floats.
+use words::Counted;
+ghost use mathlib.Core.Path.{_≡_};
+ghost use mathlib.Core.Bool.{false};
+ghost use mathlib.Core.List.{[]};
+ghost use Prim.Native.Nat.{_+_, _*_, _≤_, _<_};
+ghost use lib.IntN.{pos};
+ghost use lib.ListN.{length, getD, drop};
+ghost use Rattle.words.specs.Words.{beyond, readPoints, readContours, readOr, pointsOf};
+ghost use Rattle.words.specs.Scan.{Fine, endOf};
+ghost use Rattle.edge.specs.Edges.{coordinateOf, contourOf, edgesOf};
+ghost use Rattle.edge.specs.Stored.{Pushed};
+
+// The coordinate word at a place, in cells.
+fn coordinate_at(words: &[i32], at: usize) -> f32
+    requires { ⌜ at < length (now words) ⌝ }
+    requires { ⌜ beyond (getD (now words) at (pos 0)) ≡ false ⌝ }
+    ensures { λ r. ⌜ r ≡ coordinateOf (getD (now (words .entry)) at (pos 0)) ⌝ }
+{
+    (words[at] as f32) / 256.0
+}
+
+// Stores the edges of a closed contour of n points, whose words start at `at`, behind `stored`
+// others that stand from `edges` on. Returns how many there are now.
+fn contour(
+    words: &[i32],
+    at: usize,
+    n: usize,
+    floats: &mut [f32],
+    edges: usize,
+    stored: usize,
+    height: usize,
+) -> usize
+    requires { ⌜ Fine (readPoints n (drop at (now words))) ⌝ }
+    requires { ⌜ (edges + 5 * (stored + n) ≤ length (now floats)) × (height ≤ 4096) ⌝ }
+    ensures { λ r. ⌜ Pushed (now (floats .entry)) (now (floats .exit)) edges stored r n (contourOf height (readOr [] (readPoints n (drop at (now (words .entry)))))) ⌝ }
+{
+    if n == 0 {
+        return stored;
+    }
+    let end = at + 2 * n;
+    let mut x = coordinate_at(words, end - 2);
+    let mut y = coordinate_at(words, end - 1);
+    let mut count = stored;
+    let mut next = at;
+    while next < end {
+        let to_x = coordinate_at(words, next);
+        let to_y = coordinate_at(words, next + 1);
+        count = edge::push(floats, edges, count, x, y, to_x, to_y, height);
+        x = to_x;
+        y = to_y;
+        next += 2;
+    }
+    count
+}
+
+// Where reading goes on, and how many edges are stored.
+pub struct Stored {
+    pub at: usize,
+    pub count: usize,
+}
+
+// Stores the edges of n contours, whose words start at `from`.
+pub fn contours(
+    words: &[i32],
+    from: usize,
+    n: usize,
+    floats: &mut [f32],
+    edges: usize,
+    height: usize,
+) -> Stored
+    requires { ⌜ Fine (readContours n 0 (drop from (now words))) ⌝ }
+    requires { ⌜ from ≤ length (now words) ⌝ }
+    requires { ⌜ (edges + 5 * pointsOf (readOr [] (readContours n 0 (drop from (now words)))) ≤ length (now floats)) × (height ≤ 4096) ⌝ }
+    ensures { λ r. ⌜ Pushed (now (floats .entry)) (now (floats .exit)) edges 0 (r .count) (pointsOf (readOr [] (readContours n 0 (drop from (now (words .entry)))))) (edgesOf height (readOr [] (readContours n 0 (drop from (now (words .entry)))))) ⌝ }
+    ensures { λ r. ⌜ r .at ≡ endOf (length (now (words .entry))) (readContours n 0 (drop from (now (words .entry)))) ⌝ }
+{
+    let mut at = from;
+    let mut count = 0;
+    let mut left = n;
+    while 0 < left {
+        let Counted::Count(points) = words::count_at(words, at) else {
+            return Stored { at, count };
+        };
+        count = contour(words, at + 1, points, floats, edges, count, height);
+        at = at + 1 + 2 * points;
+        left -= 1;
+    }
+    Stored { at, count }
+}

@@ -1,0 +1,7 @@
+-- What the proofs of several functions cite. Groups: a drawing, group by group, for crate mask.
+pub mod Rows
+pub mod Active
+pub mod OneRow
+pub mod AllRows
+pub mod Prepared
+pub mod Groups

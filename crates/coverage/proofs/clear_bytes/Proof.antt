@@ -1,0 +1,54 @@
+-- `coverage::clear_bytes` meets its contract: all is mapped to one value, from the front. Assumes nothing.
+use mathlib.Core.Path.{_≡_, refl, _∙_}
+use Prim.Native.Nat.{ℕ, _-_, _≤_, _<_}
+use native.Mathlib.Omega.{arith}
+use lib.ListN.{length, length-set}
+use Rattle.row.proofs.Mapped.{mapped, mapped-more, mapped-none, mapped-all, map-same}
+use borrow.Author.Needs.{needs}
+use Rattle.coverage.proofs.clear_bytes.Statement.{statement}
+use Rattle.coverage.proofs.clear_bytes.Tie as tie
+
+abbrev Inv-loop : tie.InvT-loop
+Inv-loop bytes₀ i₀ bytes i = (i ≤ length bytes₀) × (length bytes ≡ length bytes₀) × (bytes ≡ mapped (λ (x : ℕ). 0) i bytes₀)
+
+abbrev μ-loop : tie.MeasureT-loop
+μ-loop bytes₀ i₀ bytes i = length bytes₀ - i
+
+loop-holds : tie.Need-loop-holds Inv-loop μ-loop
+loop-holds c = (omega arith, refl, mapped-none (λ (x : ℕ). 0) (c .args .bytes .now))
+
+slice-write-bytes : tie.Need-slice-write-bytes Inv-loop μ-loop
+slice-write-bytes c = search needs
+
+add-i : tie.Need-add-i Inv-loop μ-loop
+add-i c = search needs
+
+loop-less : tie.Need-loop-less Inv-loop μ-loop
+loop-less c = search needs
+
+loop-again : tie.Need-loop-again Inv-loop μ-loop
+loop-again c =
+    let l = c .before .loop in
+    let d = c .before .before .args .bytes .now in
+    let h : l .i < length d = omega arith in
+    (omega arith, simp length-set (l .inv .1), rw (l .inv .2) (mapped-more (λ (x : ℕ). 0) 0 (l .i) d h))
+
+same-length : tie.Need-same-length Inv-loop μ-loop
+same-length c = search needs
+
+returns : tie.Need-returns Inv-loop μ-loop
+returns c = c .before .loop .inv .2 ∙ mapped-all (λ (x : ℕ). 0) (c .before .loop .i) (c .before .before .args .bytes .now) (omega arith) ∙ map-same 0 (c .before .before .args .bytes .now)
+
+pub clear-bytes-spec : {M : Type 1} → statement M
+clear-bytes-spec =
+    tie.close
+    (tie.spec
+    Inv-loop
+    μ-loop
+    loop-holds
+    slice-write-bytes
+    add-i
+    loop-less
+    loop-again
+    same-length
+    returns)

@@ -1,0 +1,18 @@
+-- `edge::start_row` meets its contract. Assumes nothing.
+use mathlib.Core.Path.{ap, _∙_}
+use Rattle.float.specs.Whole.{columnOf}
+use borrow.Author.Needs.{needs}
+use Rattle.edge.proofs.start_row.Statement.{statement}
+use Rattle.edge.proofs.start_row.Tie as tie
+
+max-requires : tie.Need-max-requires
+max-requires c κs = search needs
+
+to-column-requires : tie.Need-to-column-requires
+to-column-requires c κs = search needs
+
+returns : tie.Need-returns
+returns c = c .to-column .ensures ∙ ap columnOf (c .before .max .ensures)
+
+pub start-row-spec : {M : Type 1} → statement M
+start-row-spec = tie.close (tie.spec max-requires to-column-requires returns)

@@ -1,0 +1,172 @@
+-- A row that is summed in runs: cells that hold 0.0 get the byte of the winding before them, and a touched cell that of its own. Assumes nothing.
+use mathlib.Core.Path.{_≡_, refl, sym, ap, _∙_}
+use mathlib.Core.Bool.{Bool, true, false}
+use mathlib.Core.List.{List, [], _∷_, _++_, map, append-assoc, append-nil}
+use Prim.Native.Nat.{ℕ, zero, suc, _+_, _-_, _<_, _≤_, min}
+use native.Mathlib.Nat.{not-suc-le-zero, le-of-suc-le-suc, add-zero}
+use native.Mathlib.Numerals.{add-one}
+use native.Mathlib.Omega.{arith}
+use lib.Count.{trailingZeros}
+use lib.Dec.{T}
+use lib.ListN.{length, getD, set, take, drop, replicate, length-append, length-take, length-drop, length-map, length-set, drop-of-length-le, take-append-drop}
+use lib.Seq.{drop-cons, drop-set-lt, take-at, drop-at, take-all, take-suc-set}
+use lib.Ieee.{Float, nan, binary32, fits, eq, lt, isNan, rem, mul, add, sub, sum, round, units, odd, size, span, climb, toUnsigned, ofBits, ofFields}
+use Rattle.float.specs.Ops.{f0, _⊕_}
+use Rattle.float.specs.Simple.{absOf, minOf}
+use Rattle.row.specs.Row.{Cells}
+use Rattle.row.specs.Sweep.{shareOf, coveredOf, bytesOf, addBytes}
+use Rattle.sweep.specs.declared.Run.{Run}
+use Rattle.sweep.specs.Sweeping.{plusOf, filledOf, Blank, lineFrom, Reached, Moved}
+use Rattle.sweep.proofs.Winding.{Steady, steady-zero, steady-more}
+
+-- ---- lines
+
+-- no coverage leaves a byte as it is
+pub unchanged : (l : List ℕ) → ((i : ℕ) → getD l i 0 < 256) → l ≡ map (plusOf 0) l
+unchanged [] h = refl
+unchanged (x ∷ l) h =
+    let b : x < 256 = h 0 in
+    let e : min (x + 0) 255 ≡ x = omega arith in
+    rw e (ap (λ (r : List ℕ). x ∷ r) (unchanged l (λ i. h (suc i))))
+
+pub filled-none : (from to by : ℕ) (line : List ℕ) → to ≤ from → line ≡ filledOf from to by line
+filled-none from to by line h = let e : to - from ≡ 0 = omega arith in rw e (sym (take-append-drop from line))
+
+add-run : (m b : ℕ) (bs l : List ℕ) → m ≤ length l → addBytes l (replicate m b ++ bs) ≡ map (plusOf b) (take m l) ++ addBytes (drop m l) bs
+unfolding addBytes
+add-run zero b bs l h = refl
+add-run (suc m) b bs [] h = absurd (not-suc-le-zero h)
+add-run (suc m) b bs (x ∷ l) h = ap (λ (r : List ℕ). min (x + b) 255 ∷ r) (add-run m b bs l (le-of-suc-le-suc h))
+
+-- ---- cells
+
+-- a stretch of cells that hold 0.0
+zeros : (m from : ℕ) (l : Cells) → from + m ≤ length l → Blank l from (from + m) → drop from l ≡ replicate m f0 ++ drop (from + m) l
+zeros zero from l h z = rw add-zero refl
+zeros (suc m) from l h z =
+    let e : suc from + m ≡ from + suc m = omega arith in
+    drop-cons l from nan (omega arith)
+    ∙ ap (λ (x : Float). x ∷ drop (suc from) l) (z from (omega arith) (omega arith) (omega arith))
+    ∙ ap (λ (t : Cells). f0 ∷ t) (zeros m (suc from) l (omega arith) (λ c p q g. z c (omega arith) (omega arith) g))
+    ∙ ap (λ (k : ℕ). f0 ∷ (replicate m f0 ++ drop k l)) e
+
+bytes-zeros : (e : Bool) (w : Float) (m : ℕ) (r : Cells) → Steady w → bytesOf e w (replicate m f0 ++ r) ≡ replicate m (coveredOf e w) ++ bytesOf e w r
+unfolding bytesOf
+bytes-zeros e w zero r s = refl
+bytes-zeros e w (suc m) r s =
+    ap (λ (x : Float). coveredOf e x ∷ bytesOf e x (replicate m f0 ++ r)) s ∙ ap (λ (t : List ℕ). coveredOf e w ∷ t) (bytes-zeros e w m r s)
+
+pub covered-zero : (e : Bool) → coveredOf e f0 ≡ 0
+unfolding coveredOf shareOf absOf minOf isNan ofBits ofFields lt rem mul add sub sum round units odd size span climb toUnsigned eq trailingZeros
+covered-zero true = refl
+covered-zero false = refl
+
+-- ---- a row, from a cell on
+
+abbrev lineAt : Bool → ℕ → Float → List ℕ → Cells → List ℕ
+lineAt e k w line cells = take k line ++ addBytes (drop k line) (bytesOf e w (drop k cells))
+
+module _ (e : Bool) (line : List ℕ) (cells : Cells) (same : length line ≡ length cells) (w : Float) where
+  -- past a run
+  module _ (from to : ℕ) (h : from ≤ to) (g : to ≤ length line) (s : Steady w) (z : Blank cells from to) where
+    abbrev byte : ℕ
+    byte = coveredOf e w
+
+    abbrev part : List ℕ
+    part = map (plusOf byte) (take (to - from) (drop from line))
+
+    front : length (take from line ++ part) ≡ to
+    front = simp (length-append, length-map, length-take, length-drop) (omega arith)
+
+    past-run : lineAt e from w line cells ≡ lineAt e to w (filledOf from to byte line) cells
+    past-run =
+        let m : ℕ = to - from in
+        let b : from + (to - from) ≡ to = omega arith in
+        let d : to - from ≤ length (drop from line) = simp length-drop (omega arith) in
+        let c : drop from cells ≡ replicate (to - from) f0 ++ drop to cells =
+        zeros (to - from) from cells (omega arith) (λ i p q l. z i p (omega arith) l) ∙ ap (λ (j : ℕ). replicate (to - from) f0 ++ drop j cells) b in
+        let t : take to (filledOf from to byte line) ≡ take from line ++ part =
+        ap (take to) (sym (append-assoc (take from line) part (drop (to - from) (drop from line)))) ∙ take-at (take from line ++ part) (drop (to - from) (drop from line)) to front in
+        let u : drop to (filledOf from to byte line) ≡ drop (to - from) (drop from line) =
+        ap (drop to) (sym (append-assoc (take from line) part (drop (to - from) (drop from line)))) ∙ drop-at (take from line ++ part) (drop (to - from) (drop from line)) to front in
+        ap (λ (r : Cells). take from line ++ addBytes (drop from line) (bytesOf e w r)) c
+        ∙ ap (λ (r : List ℕ). take from line ++ addBytes (drop from line) r) (bytes-zeros e w (to - from) (drop to cells) s)
+        ∙ ap (λ (r : List ℕ). take from line ++ r) (add-run (to - from) byte (bytesOf e w (drop to cells)) (drop from line) d)
+        ∙ sym (append-assoc (take from line) part (addBytes (drop (to - from) (drop from line)) (bytesOf e w (drop to cells))))
+        ∙ sym (rw (t, u) refl)
+
+    filled-length : length (filledOf from to byte line) ≡ length line
+    filled-length = simp (length-append, length-map, length-take, length-drop) (omega arith)
+
+  -- past a touched cell
+  module _ (cell : ℕ) (h : cell < length line) where
+    abbrev next : Float
+    next = w ⊕ getD cells cell nan
+
+    past-cell : lineAt e cell w line cells ≡ lineAt e (cell + 1) next (set line cell (plusOf (coveredOf e next) (getD line cell 0))) (set cells cell f0)
+    unfolding bytesOf addBytes
+    past-cell =
+        let v : ℕ = plusOf (coveredOf e next) (getD line cell 0) in
+        let more : List ℕ = addBytes (drop (suc cell) line) (bytesOf e next (drop (suc cell) cells)) in
+        rw (add-one, drop-cons line cell 0 h, drop-cons cells cell nan (omega arith), take-suc-set line cell v h, drop-set-lt (suc cell) line cell v (omega arith), drop-set-lt (suc cell) cells cell f0 (omega arith))
+        (sym (append-assoc (take cell line) (v ∷ []) more))
+
+finished : (e : Bool) (k : ℕ) (line : List ℕ) (cells : Cells) (w : Float) → length line ≤ k → lineAt e k w line cells ≡ line
+unfolding addBytes
+finished e k line cells w h = rw (drop-of-length-le line h, take-all k line h) (append-nil line)
+
+-- ---- a run and the touched cell behind it
+
+module _ (e : Bool) (line : List ℕ) (cells : Cells) (run : Run) (r : Reached e line cells run) (cell : ℕ) (h : run .from ≤ cell) (g : cell < length cells) (z : Blank cells (run .from) cell) where
+  abbrev winding : Float
+  winding = run .winding ⊕ getD cells cell nan
+
+  module _ (filled : List ℕ) (is : filled ≡ filledOf (run .from) cell (run .coverage) line) where
+    filled-is : filled ≡ filledOf (run .from) cell (coveredOf e (run .winding)) line
+    filled-is = is ∙ ap (λ (b : ℕ). filledOf (run .from) cell b line) (r .byte)
+
+    in-line : cell ≤ length line
+    in-line = let s = r .same in omega arith
+
+    pub cell-in-line : length filled ≡ length cells
+    cell-in-line = ap length filled-is ∙ filled-length e line cells (r .same) (run .winding) (run .from) cell h in-line (r .steady) z ∙ r .same
+
+    pub cell-moved : (coverage v : ℕ) → T (fits binary32 (getD cells cell nan)) → coverage ≡ coveredOf e winding → v ≡ plusOf coverage (getD filled cell 0)
+        → Moved e line cells run (set filled cell v) (set cells cell f0) (record { from = cell + 1; winding = winding; coverage = coverage })
+    cell-moved coverage v t c p =
+        let l = cell-in-line in
+        let ls : length (set filled cell v) ≡ length cells = length-set filled cell v ∙ l in
+        record {
+          reached = record { same = ls ∙ sym (length-set cells cell f0); within = omega arith; steady = steady-more (run .winding) (getD cells cell nan) t (r .steady); byte = c };
+          left = past-run e line cells (r .same) (run .winding) (run .from) cell h in-line (r .steady) z
+              ∙ ap (λ (x : List ℕ). lineAt e cell (run .winding) x cells) (sym filled-is)
+              ∙ past-cell e filled cells l (run .winding) cell (omega arith)
+              ∙ ap (λ (x : ℕ). lineAt e (cell + 1) winding (set filled cell x) (set cells cell f0)) (sym (p ∙ ap (λ (b : ℕ). plusOf b (getD filled cell 0)) c));
+        }
+
+-- the last run goes up to the row's end
+pub last-run : (e : Bool) (line : List ℕ) (cells : Cells) (run : Run) → Reached e line cells run → Blank cells 0 (length cells) → lineFrom e line cells run ≡ filledOf (run .from) (length line) (run .coverage) line
+last-run e line cells run r z =
+    let n : ℕ = length line in
+    let l = r .within in
+    past-run e line cells (r .same) (run .winding) (run .from) (length line) l (omega arith) (r .steady) (λ c p q g. z c (omega arith) g g)
+    ∙ finished e (length line) (filledOf (run .from) (length line) (coveredOf e (run .winding)) line) cells (run .winding) (let f = filled-length e line cells (r .same) (run .winding) (run .from) (length line) l (omega arith) (r .steady) (λ c p q g. z c (omega arith) g g) in omega arith)
+    ∙ ap (λ (b : ℕ). filledOf (run .from) (length line) b line) (sym (r .byte))
+
+-- a row that holds no area adds nothing
+pub no-area : (e : Bool) (line : List ℕ) (n : ℕ) → length line ≡ n → ((i : ℕ) → getD line i 0 < 256) → addBytes line (bytesOf e f0 (replicate n f0)) ≡ line
+unfolding bytesOf addBytes
+no-area e line n h small =
+    let l : length line ≤ n = omega arith in
+    ap (λ (r : Cells). addBytes line (bytesOf e f0 r)) (sym (append-nil (replicate n f0)))
+    ∙ ap (addBytes line) (bytes-zeros e f0 n [] steady-zero)
+    ∙ add-run n (coveredOf e f0) [] line (omega arith)
+    ∙ ap (λ (b : ℕ). map (plusOf b) (take n line) ++ addBytes (drop n line) []) (covered-zero e)
+    ∙ rw (take-all n line l, drop-of-length-le line l) (append-nil (map (plusOf 0) line) ∙ sym (unchanged line small))
+
+-- ---- cleared cells
+
+pub all-zero : (l : Cells) → Blank l 0 (length l) → l ≡ replicate (length l) f0
+all-zero [] z = refl
+all-zero (x ∷ l) z =
+    ap (λ (y : Float). y ∷ l) (z 0 (omega arith) (omega arith) (omega arith)) ∙ ap (λ (t : Cells). f0 ∷ t) (all-zero l (λ c p q h. z (suc c) (omega arith) (omega arith) (omega arith)))

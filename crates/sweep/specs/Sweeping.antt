@@ -1,0 +1,57 @@
+-- What the functions of a row's sweep promise to each other. The bytes themselves are those of crate row's Sweep.antt. Definitions only.
+use mathlib.Core.Path.{_≡_}
+use mathlib.Core.Logic.{_⊎_}
+use mathlib.Core.Bool.{Bool}
+use mathlib.Core.List.{List, _++_, map}
+use Prim.Native.Nat.{ℕ, _+_, _-_, _≤_, _<_, min}
+use lib.ListN.{length, getD, take, drop}
+use lib.Ieee.{nan}
+use Rattle.float.specs.Ops.{f0, _⊕_}
+use Rattle.row.specs.Row.{Cells}
+use Rattle.row.specs.Sweep.{coveredOf, bytesOf, addBytes}
+use Rattle.row.specs.Marks.{bitOf}
+use Rattle.sweep.specs.declared.Run.{Run}
+
+-- a byte more, stopping at 255
+abbrev pub plusOf : ℕ → ℕ → ℕ
+plusOf by a = min (a + by) 255
+
+-- a line whose bytes from `from` up to `to` are `by` more
+abbrev pub filledOf : ℕ → ℕ → ℕ → List ℕ → List ℕ
+filledOf from to by line = take from line ++ (map (plusOf by) (take (to - from) (drop from line)) ++ drop (to - from) (drop from line))
+
+-- the cells from `from` up to `to` hold 0.0
+abbrev pub Blank : Cells → ℕ → ℕ → Type 0
+Blank cells from to = (cell : ℕ) → from ≤ cell → cell < to → cell < length cells → getD cells cell nan ≡ f0
+
+-- the line that a row comes to, where a run of it is reached: the bytes before the run are right, and those from it on are still to be added
+abbrev pub lineFrom : Bool → List ℕ → Cells → Run → List ℕ
+lineFrom evenOdd line cells run = take (run .from) line ++ addBytes (drop (run .from) line) (bytesOf evenOdd (run .winding) (drop (run .from) cells))
+
+-- A run of a row: its coverage is that of its winding, and 0.0 more leaves its winding as it is
+pub record Reached (evenOdd : Bool) (line : List ℕ) (cells : Cells) (run : Run) : Type 0 where
+  pub same : length line ≡ length cells
+  pub within : run .from ≤ length line
+  pub steady : run .winding ⊕ f0 ≡ run .winding
+  pub byte : run .coverage ≡ coveredOf evenOdd (run .winding)
+
+-- from a run to a later one: the line that the row comes to is the same
+pub record Moved (evenOdd : Bool) (line : List ℕ) (cells : Cells) (run : Run) (line' : List ℕ) (cells' : Cells) (run' : Run) : Type 0 where
+  pub reached : Reached evenOdd line' cells' run'
+  pub left : lineFrom evenOdd line cells run ≡ lineFrom evenOdd line' cells' run'
+
+-- a word of marks, for the cells from `base` on: a cell from the run on whose bit is clear holds 0.0
+pub record Word (cells : Cells) (run : Run) (base word : ℕ) : Type 0 where
+  pub ahead : run .from ≤ base
+  pub clear : (cell : ℕ) → run .from ≤ cell → cell < base + 64 → cell < length cells → (base ≤ cell → bitOf word (cell - base) ≡ 0) → getD cells cell nan ≡ f0
+
+-- the word's cells are done: none from the run on holds area, and the others are as they were
+pub record WordDone (cells cells' : Cells) (run run' : Run) (base : ℕ) : Type 0 where
+  pub reach : run' .from ≤ base + 64
+  pub blank : Blank cells' (run .from) (base + 64)
+  pub kept : (cell : ℕ) → (cell < run .from) ⊎ (base + 64 ≤ cell) → getD cells' cell nan ≡ getD cells cell nan
+
+-- a row's words are done: no cell holds area, and no word a mark
+pub record WordsDone (cells : Cells) (touched : List ℕ) : Type 0 where
+  pub blank : Blank cells 0 (length cells)
+  pub words : (word : ℕ) → word + 1 < length touched → getD touched (word + 1) 0 ≡ 0

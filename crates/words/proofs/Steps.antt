@@ -1,0 +1,399 @@
+-- What the code's answers say of what is read, and its loops turn by turn. Assumes nothing.
+use mathlib.Core.Path.{_≡_, refl, sym, ap, _∙_, subst}
+use mathlib.Core.Bool.{Bool, true, false, cond, true≢false, false≢true}
+use mathlib.Core.List.{List, [], _∷_}
+use Prim.Native.Nat.{ℕ, zero, suc, _+_, _-_, _*_, _≤_, _<_}
+use native.Mathlib.Omega.{arith}
+use native.Mathlib.Numerals.{add-one}
+use native.Mathlib.Nat.{add-assoc, add-zero}
+use lib.Dec.{ltb}
+use lib.IntN.{ℤ, pos, negsuc, natAbs}
+use lib.ListN.{length, getD, drop, length-drop, drop-of-length-le}
+use lib.Seq.{drop-cons}
+use lib.Signed.{ltZ}
+use borrow.Author.Tests.{ltb-true, ltb-false, lt-ltb, le-ltb}
+use Rattle.fault.specs.declared.Fault.{Fault}
+use Rattle.fault.specs.declared.Fault.the-variants.{ListEndsEarly, CountOutOfRange, CoordinateOutOfRange}
+use Rattle.words.specs.Words.{Point, Group, pointsOf, pointsIn, Read, ok, fault, andThen, readCount, beyond, readCoordinate, readPoint, readPoints, readContour, readContours, readGroup, readGroups, readWords}
+use Rattle.words.specs.Scan.{countedOf, checkedOf, scanOf, groupPoints}
+use Rattle.words.specs.declared.Counted.{Counted}
+use Rattle.words.specs.declared.Counted.the-variants as counted
+use Rattle.words.specs.declared.Checked.{Checked}
+use Rattle.words.specs.declared.Checked.the-variants as checked
+use Rattle.words.specs.declared.Scan.{Scan}
+use Rattle.words.specs.declared.Scan.the-variants as scan
+use Rattle.words.proofs.Ends.{then-ok, cond-ok, Ended, ended-point, ended-points, ended-contour, ended-contours, ended-group, placed}
+
+-- ---- what an answer says
+pub counted-count : (r : Read ℕ) (n : ℕ) → countedOf r ≡ counted.Count n → (rest : List ℤ) × (r ≡ ok n rest)
+counted-count (ok m rest) n e = (rest, cc)
+counted-count (fault f) n e = let z : _≡_ {A = ℕ} 0 1 = cc in absurd (omega arith)
+
+pub counted-fault : (r : Read ℕ) (f : Fault) → countedOf r ≡ counted.Refused f → r ≡ fault f
+counted-fault (ok m rest) f e = let z : _≡_ {A = ℕ} 0 1 = cc in absurd (omega arith)
+counted-fault (fault g) f e = cc
+
+module _ {A : Type 0} where
+  pub checked-good : (r : Read A) → checkedOf r ≡ checked.Good → (a : A) × (rest : List ℤ) × (r ≡ ok a rest)
+  checked-good (ok a rest) e = (a, rest, refl)
+  checked-good (fault f) e = let z : _≡_ {A = ℕ} 0 1 = cc in absurd (omega arith)
+
+  pub checked-fault : (r : Read A) (f : Fault) → checkedOf r ≡ checked.Refused f → r ≡ fault f
+  checked-fault (ok a rest) f e = let z : _≡_ {A = ℕ} 0 1 = cc in absurd (omega arith)
+  checked-fault (fault g) f e = cc
+
+  pub record Went (total : ℕ) (points : A → ℕ) (before : ℕ) (r : Read A) (k p : ℕ) : Type 0 where
+    pub value : A
+    pub rest : List ℤ
+    pub read : r ≡ ok value rest
+    pub place : k ≡ total - length rest
+    pub count : p ≡ before + points value
+
+  pub scan-at : (total : ℕ) (points : A → ℕ) (before : ℕ) (r : Read A) (k p : ℕ) → scanOf total points before r ≡ scan.At k p → Went total points before r k p
+  scan-at total points before (ok a rest) k p e = record { value = a; rest = rest; read = refl; place = cc; count = cc }
+  scan-at total points before (fault f) k p e = let z : _≡_ {A = ℕ} 0 1 = cc in absurd (omega arith)
+
+  pub scan-fault : (total : ℕ) (points : A → ℕ) (before : ℕ) (r : Read A) (f : Fault) → scanOf total points before r ≡ scan.Refused f → r ≡ fault f
+  scan-fault total points before (ok a rest) f e = let z : _≡_ {A = ℕ} 0 1 = cc in absurd (omega arith)
+  scan-fault total points before (fault g) f e = cc
+
+-- ---- the word at a place
+pub at-end : (ws : List ℤ) (at : ℕ) → length ws ≤ at → drop at ws ≡ []
+at-end ws at h = drop-of-length-le ws h
+
+pub at-word : (ws : List ℤ) (at : ℕ) → at < length ws → drop at ws ≡ getD ws at (pos 0) ∷ drop (at + 1) ws
+at-word ws at h = drop-cons ws at (pos 0) h ∙ ap (λ (k : ℕ). getD ws at (pos 0) ∷ drop k ws) (sym (add-one at))
+
+pub count-missing : (ws : List ℤ) (at : ℕ) → length ws ≤ at → counted.Refused ListEndsEarly ≡ countedOf (readCount (drop at ws))
+unfolding readCount
+count-missing ws at h = rw (at-end ws at h) refl
+
+pub count-negative : (ws : List ℤ) (at : ℕ) → at < length ws → ltZ (getD ws at (pos 0)) (pos 0) ≡ true → counted.Refused CountOutOfRange ≡ countedOf (readCount (drop at ws))
+unfolding readCount
+count-negative ws at h e = rw (at-word ws at h) (go (getD ws at (pos 0)) e)
+  where
+    go : (z : ℤ) → ltZ z (pos 0) ≡ true → counted.Refused CountOutOfRange ≡ countedOf (readCount (z ∷ drop (at + 1) ws))
+    go (pos n) e = absurd (omega (arith, ltb-true n 0 e))
+    go (negsuc n) e = refl
+
+pub count-is : (ws : List ℤ) (at : ℕ) → at < length ws → ltZ (getD ws at (pos 0)) (pos 0) ≡ false → counted.Count (natAbs (getD ws at (pos 0))) ≡ countedOf (readCount (drop at ws))
+unfolding readCount
+count-is ws at h e = rw (at-word ws at h) (go (getD ws at (pos 0)) e)
+  where
+    go : (z : ℤ) → ltZ z (pos 0) ≡ false → counted.Count (natAbs z) ≡ countedOf (readCount (z ∷ drop (at + 1) ws))
+    go (pos n) e = refl
+    go (negsuc n) e = absurd (true≢false e)
+
+pub coordinate-missing : (ws : List ℤ) (at : ℕ) → length ws ≤ at → checked.Refused ListEndsEarly ≡ checkedOf (readCoordinate (drop at ws))
+unfolding readCoordinate
+coordinate-missing ws at h = rw (at-end ws at h) refl
+
+pub coordinate-far : (ws : List ℤ) (at : ℕ) → at < length ws → beyond (getD ws at (pos 0)) ≡ true → checked.Refused CoordinateOutOfRange ≡ checkedOf (readCoordinate (drop at ws))
+unfolding readCoordinate
+coordinate-far ws at h e = rw (at-word ws at h, e) refl
+
+pub coordinate-good : (ws : List ℤ) (at : ℕ) → at < length ws → beyond (getD ws at (pos 0)) ≡ false → readCoordinate (drop at ws) ≡ ok (getD ws at (pos 0)) (drop (at + 1) ws)
+unfolding readCoordinate
+coordinate-good ws at h e = rw (at-word ws at h, e) refl
+
+pub coordinate-next : (ws : List ℤ) (at : ℕ) → checkedOf (readCoordinate (drop at ws)) ≡ checked.Good
+    → (at < length ws) × (beyond (getD ws at (pos 0)) ≡ false)
+coordinate-next ws at e = go (ltb at (length ws)) (beyond (getD ws at (pos 0))) refl refl
+  where
+    not-good : {f : Fault} → checked.Refused f ≡ checked.Good → ⊥
+    not-good {f} h = let z : _≡_ {A = ℕ} 0 1 = cc in omega arith
+
+    go : (b d : Bool) → ltb at (length ws) ≡ b → beyond (getD ws at (pos 0)) ≡ d → (at < length ws) × (d ≡ false)
+    go false d p q = absurd (not-good (coordinate-missing ws at (ltb-false at (length ws) p) ∙ e))
+    go true true p q = absurd (not-good (coordinate-far ws at (ltb-true at (length ws) p) q ∙ e))
+    go true false p q = (ltb-true at (length ws) p, refl)
+
+-- ---- a pair of coordinates
+checked-map : {A B : Type 0} (f : A → B) (r : Read A) → checkedOf (andThen r (λ a rest. ok (f a) rest)) ≡ checkedOf r
+unfolding andThen
+checked-map f (ok a rest) = refl
+checked-map f (fault g) = refl
+
+pub point-first : (ws : List ℤ) (at : ℕ) (f : Fault) → checked.Refused f ≡ checkedOf (readCoordinate (drop at ws)) → checked.Refused f ≡ checkedOf (readPoint (drop at ws))
+unfolding readPoint andThen
+point-first ws at f e = rw (checked-fault (readCoordinate (drop at ws)) f (sym e)) refl
+
+pub point-second : (ws : List ℤ) (at : ℕ) → checkedOf (readCoordinate (drop at ws)) ≡ checked.Good → checkedOf (readCoordinate (drop (at + 1) ws)) ≡ checkedOf (readPoint (drop at ws))
+unfolding readPoint
+point-second ws at e =
+    let n = coordinate-next ws at e in
+    rw (coordinate-good ws at (n .0) (n .1)) (unfold andThen in sym (checked-map (λ (y : ℤ). record { x = getD ws at (pos 0); y = y }) (readCoordinate (drop (at + 1) ws))))
+
+-- the point whose words stand at a place
+abbrev pub pointAt : List ℤ → ℕ → Point
+pointAt ws at = record { x = getD ws at (pos 0); y = getD ws (at + 1) (pos 0) }
+
+pub record PointThere (ws : List ℤ) (at : ℕ) : Type 0 where
+  pub within : at + 2 ≤ length ws
+  pub near-x : beyond (getD ws at (pos 0)) ≡ false
+  pub near-y : beyond (getD ws (at + 1) (pos 0)) ≡ false
+
+pub point-read : (ws : List ℤ) (at : ℕ) → PointThere ws at → readPoint (drop at ws) ≡ ok (pointAt ws at) (drop (at + 2) ws)
+unfolding readPoint andThen
+point-read ws at h =
+    rw (coordinate-good ws at (omega (arith, h .within)) (h .near-x), coordinate-good ws (at + 1) (omega (arith, h .within)) (h .near-y))
+    (let e : at + 1 + 1 ≡ at + 2 = omega arith in ap (λ (k : ℕ). ok (pointAt ws at) (drop k ws)) e)
+
+pub point-there : (ws : List ℤ) (at : ℕ) → checkedOf (readPoint (drop at ws)) ≡ checked.Good → PointThere ws at
+point-there ws at e = go (checkedOf (readCoordinate (drop at ws))) refl
+  where
+    go : (r : Checked) → checkedOf (readCoordinate (drop at ws)) ≡ r → PointThere ws at
+    go checked.Good h =
+        let n = coordinate-next ws at h in
+        let m = coordinate-next ws (at + 1) (point-second ws at h ∙ e) in
+        record { within = omega (arith, m .0); near-x = n .1; near-y = m .1 }
+    go (checked.Refused f) h = let s = point-first ws at f (sym h) ∙ e in let z : _≡_ {A = ℕ} 0 1 = cc in absurd (omega arith)
+
+-- ---- lists of points, contours and groups: one is read, and then the others
+pub scan-cons : {A : Type 0} (total : ℕ) (points : List A → ℕ) (before w : ℕ) (a : A) → ((l : List A) → points (a ∷ l) ≡ w + points l) → (r : Read (List A))
+    → scanOf total points before (andThen r (λ l rest. ok (a ∷ l) rest)) ≡ scanOf total points (before + w) r
+unfolding andThen
+scan-cons total points before w a h (ok l rest) = ap (λ (n : ℕ). scan.At (total - length rest) n) (ap (λ (n : ℕ). before + n) (h l) ∙ sym (add-assoc before w (points l)))
+scan-cons total points before w a h (fault f) = refl
+
+abbrev scanPoints : List ℤ → ℕ → ℕ → ℕ → Scan
+scanPoints ws n before at = scanOf (length ws) length before (readPoints n (drop at ws))
+
+pub points-none : (ws : List ℤ) (n before at : ℕ) → n ≤ 0 → at ≤ length ws → scan.At at before ≡ scanPoints ws n before at
+unfolding readPoints
+points-none ws zero before at h l =
+    let e : length ws - length (drop at ws) ≡ at = omega (arith, length-drop at ws) in
+    sym (ap (λ (k : ℕ). scan.At k (before + 0)) e ∙ ap (λ (n : ℕ). scan.At at n) (add-zero before))
+points-none ws (suc n) before at h l = absurd (omega arith)
+
+pub points-step : (ws : List ℤ) (n before at : ℕ) → 0 < n → PointThere ws at → scanPoints ws n before at ≡ scanPoints ws (n - 1) (before + 1) (at + 2)
+unfolding readPoints
+points-step ws zero before at h p = absurd (omega arith)
+points-step ws (suc n) before at h p =
+    let e : suc n - 1 ≡ n = omega arith in
+    rw (e, point-read ws at p) (unfold andThen in scan-cons (length ws) length before 1 (pointAt ws at) (λ l. omega arith) (readPoints n (drop (at + 2) ws)))
+
+pub points-fault : (ws : List ℤ) (n before at : ℕ) (f : Fault) → 0 < n → readPoint (drop at ws) ≡ fault f → scanPoints ws n before at ≡ scan.Refused f
+unfolding readPoints andThen
+points-fault ws zero before at f h e = absurd (omega arith)
+points-fault ws (suc n) before at f h e = rw e refl
+
+-- ---- contours
+pub points-length : (n : ℕ) (ws : List ℤ) (ps : List Point) (rest : List ℤ) → readPoints n ws ≡ ok ps rest → length ps ≡ n
+unfolding readPoints
+points-length zero ws ps rest e = let q : ps ≡ [] = cc in rw q refl
+points-length (suc n) ws ps rest e =
+    let a = then-ok (readPoint ws) _ ps rest e in
+    let b = then-ok (readPoints n (a .rest)) _ ps rest (a .second) in
+    let s = b .second in
+    let q : ps ≡ a .value ∷ b .value = cc in
+    rw q (ap suc (points-length n (a .rest) (b .value) (b .rest) (b .first)))
+
+-- the points of a contour, of contours and of a group stay within the list's limit
+pub contour-few : (before : ℕ) (ws : List ℤ) (c : List Point) (rest : List ℤ) → readContour before ws ≡ ok c rest → before + length c ≤ 2048
+unfolding readContour
+contour-few before ws c rest e =
+    let a = then-ok (readCount ws) _ c rest e in
+    let b = cond-ok (ltb 2048 (before + a .value)) CountOutOfRange (readPoints (a .value) (a .rest)) c rest (a .second) in
+    omega (arith, ltb-false 2048 (before + a .value) (b .0), points-length (a .value) (a .rest) c rest (b .1))
+
+pub contours-few : (n before : ℕ) (ws : List ℤ) (cs : List (List Point)) (rest : List ℤ) → before ≤ 2048 → readContours n before ws ≡ ok cs rest → before + pointsOf cs ≤ 2048
+unfolding readContours pointsOf
+contours-few zero before ws cs rest l e = let q : cs ≡ [] = cc in rw q (omega arith)
+contours-few (suc n) before ws cs rest l e =
+    let a = then-ok (readContour before ws) _ cs rest e in
+    let b = then-ok (readContours n (before + length (a .value)) (a .rest)) _ cs rest (a .second) in
+    let s = b .second in
+    let q : cs ≡ a .value ∷ b .value = cc in
+    let f = contours-few n (before + length (a .value)) (a .rest) (b .value) (b .rest) (contour-few before ws (a .value) (a .rest) (a .first)) (b .first) in
+    rw q (omega arith)
+
+pub group-few : (before : ℕ) (ws : List ℤ) (g : Group) (rest : List ℤ) → before ≤ 2048 → readGroup before ws ≡ ok g rest → before + groupPoints g ≤ 2048
+unfolding readGroup
+group-few before [] g rest l e = let z : _≡_ {A = ℕ} 0 1 = cc in absurd (omega arith)
+group-few before (w ∷ ws) g rest l e =
+    let a = then-ok (readCount ws) _ g rest e in
+    let b = then-ok (readContours (a .value) before (a .rest)) _ g rest (a .second) in
+    let s = b .second in
+    let q : g ≡ record { rule = w; contours = b .value } = cc in
+    rw q (contours-few (a .value) before (a .rest) (b .value) (b .rest) l (b .first))
+
+abbrev scanContours : List ℤ → ℕ → ℕ → ℕ → Scan
+scanContours ws n before at = scanOf (length ws) pointsOf before (readContours n before (drop at ws))
+
+pub contours-none : (ws : List ℤ) (n before at : ℕ) → n ≤ 0 → at ≤ length ws → scan.At at before ≡ scanContours ws n before at
+unfolding readContours pointsOf
+contours-none ws zero before at h l =
+    let e : length ws - length (drop at ws) ≡ at = omega (arith, length-drop at ws) in
+    sym (ap (λ (k : ℕ). scan.At k (before + 0)) e ∙ ap (λ (n : ℕ). scan.At at n) (add-zero before))
+contours-none ws (suc n) before at h l = absurd (omega arith)
+
+-- where a contour's reading leads
+pub record Onward (ws : List ℤ) (least at next points : ℕ) : Type 0 where
+  pub forward : at + least ≤ next
+  pub within : next ≤ length ws
+  pub few : points ≤ 2048
+
+module _ (ws : List ℤ) (n before at next more : ℕ) (some : 0 < n) (inside : at ≤ length ws)
+    (w : Went (length ws) length before (readContour before (drop at ws)) next more) where
+  contour-placed : (w .rest ≡ drop next ws) × (at + 1 ≤ next)
+  contour-placed =
+      let p = placed 1 at ws (w .value) (w .rest) inside (subst (Ended 1 (drop at ws)) (w .read) (ended-contour before (drop at ws))) in
+      (p .0 ∙ ap (λ (k : ℕ). drop k ws) (sym (w .place)), omega (arith, p .1, w .place))
+
+  pub contour-onward : Onward ws 1 at next more
+  contour-onward = record {
+    forward = contour-placed .1;
+    within = omega (arith, w .place);
+    few = omega (arith, w .count, contour-few before (drop at ws) (w .value) (w .rest) (w .read));
+  }
+
+  pub contours-step : scanContours ws n before at ≡ scanContours ws (n - 1) more next
+  unfolding readContours pointsOf
+  contours-step = go n some
+    where
+      tail : (m : ℕ) → scanOf (length ws) pointsOf before (andThen (readContours m (before + length (w .value)) (w .rest)) (λ l rest. ok (w .value ∷ l) rest)) ≡ scanContours ws m more next
+      tail m =
+          scan-cons (length ws) pointsOf before (length (w .value)) (w .value) (λ l. refl) (readContours m (before + length (w .value)) (w .rest))
+          ∙ ap (λ (k : ℕ). scanOf (length ws) pointsOf k (readContours m k (w .rest))) (sym (w .count))
+          ∙ ap (λ (l : List ℤ). scanOf (length ws) pointsOf more (readContours m more l)) (contour-placed .0)
+
+      go : (n : ℕ) → 0 < n → scanContours ws n before at ≡ scanContours ws (n - 1) more next
+      go zero h = absurd (omega arith)
+      go (suc m) h = let e : suc m - 1 ≡ m = omega arith in rw (e, w .read) (unfold andThen in tail m)
+
+pub contours-fault : (ws : List ℤ) (n before at : ℕ) (f : Fault) → 0 < n → readContour before (drop at ws) ≡ fault f → scanContours ws n before at ≡ scan.Refused f
+unfolding readContours andThen
+contours-fault ws zero before at f h e = absurd (omega arith)
+contours-fault ws (suc n) before at f h e = rw e refl
+
+-- ---- a group
+scan-map : {A B : Type 0} (total : ℕ) (points : A → ℕ) (count : B → ℕ) (before : ℕ) (f : A → B) → ((a : A) → count (f a) ≡ points a) → (r : Read A)
+    → scanOf total count before (andThen r (λ a rest. ok (f a) rest)) ≡ scanOf total points before r
+unfolding andThen
+scan-map total points count before f h (ok a rest) = ap (λ (n : ℕ). scan.At (total - length rest) (before + n)) (h a)
+scan-map total points count before f h (fault g) = refl
+
+module _ (ws : List ℤ) (at before : ℕ) where
+  abbrev scanGroup : Scan
+  scanGroup = scanOf (length ws) groupPoints before (readGroup before (drop at ws))
+
+  pub group-missing : length ws ≤ at → scan.Refused ListEndsEarly ≡ scanGroup
+  unfolding readGroup
+  group-missing h = rw (at-end ws at h) refl
+
+  pub group-count : (f : Fault) → at < length ws → readCount (drop (at + 1) ws) ≡ fault f → scan.Refused f ≡ scanGroup
+  unfolding readGroup andThen
+  group-count f h e = rw (at-word ws at h, e) refl
+
+  pub group-contours : (n : ℕ) (rest : List ℤ) → at < length ws → readCount (drop (at + 1) ws) ≡ ok n rest → rest ≡ drop (at + 2) ws → scanContours ws n before (at + 2) ≡ scanGroup
+  unfolding readGroup
+  group-contours n rest h e q =
+      rw (at-word ws at h, e, q) (unfold andThen in sym (scan-map (length ws) pointsOf groupPoints before (λ (cs : List (List Point)). record { rule = getD ws at (pos 0); contours = cs }) (λ cs. refl) (readContours n before (drop (at + 2) ws))))
+
+-- the word behind a count
+pub count-next : (ws : List ℤ) (at n : ℕ) (rest : List ℤ) → readCount (drop at ws) ≡ ok n rest → (at < length ws) × (rest ≡ drop (at + 1) ws)
+unfolding readCount
+count-next ws at n rest e = go (ltb at (length ws)) refl
+  where
+    word : (z : ℤ) (more : List ℤ) → readCount (z ∷ more) ≡ ok n rest → rest ≡ more
+    word (pos m) more h = cc
+    word (negsuc m) more h = let z : _≡_ {A = ℕ} 0 1 = cc in absurd (omega arith)
+
+    none : readCount [] ≡ ok n rest → ⊥
+    none h = let z : _≡_ {A = ℕ} 0 1 = cc in omega arith
+
+    go : (b : Bool) → ltb at (length ws) ≡ b → (at < length ws) × (rest ≡ drop (at + 1) ws)
+    go true h = (ltb-true at (length ws) h, word (getD ws at (pos 0)) (drop (at + 1) ws) (ap readCount (sym (at-word ws at (ltb-true at (length ws) h))) ∙ e))
+    go false h = absurd (none (ap readCount (sym (at-end ws at (ltb-false at (length ws) h))) ∙ e))
+
+-- ---- a contour: its count, and its points
+module _ (ws : List ℤ) (at before : ℕ) where
+  abbrev scanContour : Scan
+  scanContour = scanOf (length ws) length before (readContour before (drop at ws))
+
+  pub contour-count : (f : Fault) → readCount (drop at ws) ≡ fault f → scan.Refused f ≡ scanContour
+  unfolding readContour andThen
+  contour-count f e = rw e refl
+
+  pub contour-many : (n : ℕ) (rest : List ℤ) → readCount (drop at ws) ≡ ok n rest → 2048 - before < n → scan.Refused CountOutOfRange ≡ scanContour
+  unfolding readContour andThen
+  contour-many n rest e h = rw (e, lt-ltb 2048 (before + n) (omega arith)) refl
+
+  pub contour-points : (n : ℕ) (rest : List ℤ) → readCount (drop at ws) ≡ ok n rest → before ≤ 2048 → n ≤ 2048 - before → scanPoints ws n before (at + 1) ≡ scanContour
+  unfolding readContour andThen
+  contour-points n rest e b h = rw (e, le-ltb 2048 (before + n) (omega arith), (count-next ws at n rest e) .1) refl
+
+-- ---- groups: what is left to read, with enough steps for it
+abbrev scanWords : List ℤ → Scan
+scanWords ws = scanOf (length ws) pointsIn 0 (readWords ws)
+
+pub record Going (ws : List ℤ) (at before : ℕ) : Type 0 where
+  pub fuel : ℕ
+  pub enough : length ws - at ≤ fuel
+  pub left : scanWords ws ≡ scanOf (length ws) pointsIn before (readGroups fuel before (drop at ws))
+
+pub going-start : (ws : List ℤ) → Going ws 0 0
+unfolding readWords
+going-start ws = record { fuel = length ws; enough = omega arith; left = refl }
+
+pub going-end : (ws : List ℤ) (at before : ℕ) → at ≤ length ws → length ws ≤ at → Going ws at before → scan.At at before ≡ scanWords ws
+unfolding readGroups pointsIn
+going-end ws at before l h g = sym (g .left ∙ rw (at-end ws at h) (none (g .fuel)))
+  where
+    all : scan.At (length ws - 0) (before + 0) ≡ scan.At at before
+    all = let e : length ws - 0 ≡ at = omega arith in ap (λ (k : ℕ). scan.At k (before + 0)) e ∙ ap (λ (n : ℕ). scan.At at n) (add-zero before)
+
+    none : (n : ℕ) → scanOf (length ws) pointsIn before (readGroups n before []) ≡ scan.At at before
+    none zero = all
+    none (suc n) = all
+
+module _ (ws : List ℤ) (at before : ℕ) (h : at < length ws) (g : Going ws at before) where
+  some-fuel : (n : ℕ) × (g .fuel ≡ suc n)
+  some-fuel = let e = g .enough in let q : g .fuel ≡ suc (g .fuel - 1) = omega arith in (g .fuel - 1, q)
+
+  open-fuel : scanWords ws ≡ scanOf (length ws) pointsIn before (readGroups (suc (some-fuel .0)) before (drop at ws))
+  open-fuel = g .left ∙ ap (λ (n : ℕ). scanOf (length ws) pointsIn before (readGroups n before (drop at ws))) (some-fuel .1)
+
+  -- the list has a word at this place
+  one-more : (n : ℕ) → readGroups (suc n) before (drop at ws)
+      ≡ andThen (readGroup before (drop at ws)) (λ g rest. andThen (readGroups n (before + pointsOf (g .contours)) rest) (λ gs more. ok (g ∷ gs) more))
+  unfolding readGroups
+  one-more n = rw (at-word ws at h) refl
+
+  pub going-fault : (f : Fault) → readGroup before (drop at ws) ≡ fault f → scan.Refused f ≡ scanWords ws
+  unfolding andThen
+  going-fault f e = sym (open-fuel ∙ ap (scanOf (length ws) pointsIn before) (one-more (some-fuel .0)) ∙ rw e refl)
+
+  module _ (next more : ℕ) (w : Went (length ws) groupPoints before (readGroup before (drop at ws)) next more) where
+    group-placed : (w .rest ≡ drop next ws) × (at + 2 ≤ next)
+    group-placed =
+        let p = placed 2 at ws (w .value) (w .rest) (omega arith) (subst (Ended 2 (drop at ws)) (w .read) (ended-group before (drop at ws))) in
+        (p .0 ∙ ap (λ (k : ℕ). drop k ws) (sym (w .place)), omega (arith, p .1, w .place))
+
+    pub group-onward : before ≤ 2048 → Onward ws 2 at next more
+    group-onward b = record {
+      forward = group-placed .1;
+      within = omega (arith, w .place);
+      few = omega (arith, w .count, group-few before (drop at ws) (w .value) (w .rest) b (w .read));
+    }
+
+    read-on : (n : ℕ) → readGroups (suc n) before (drop at ws) ≡ andThen (readGroups n (before + groupPoints (w .value)) (w .rest)) (λ gs more. ok (w .value ∷ gs) more)
+    read-on n = one-more n ∙ rw (w .read) (unfold andThen in refl)
+
+    pub going-more : Going ws next more
+    unfolding pointsIn
+    going-more =
+        let f = some-fuel in
+        let n = f .0 in
+        let e = g .enough in
+        let l = group-placed .1 in
+        record {
+          fuel = n;
+          enough = omega (arith, f .1);
+          left = open-fuel
+              ∙ ap (scanOf (length ws) pointsIn before) (read-on n)
+              ∙ scan-cons (length ws) pointsIn before (groupPoints (w .value)) (w .value) (λ l. refl) (readGroups n (before + groupPoints (w .value)) (w .rest))
+              ∙ ap (λ (k : ℕ). scanOf (length ws) pointsIn k (readGroups n k (w .rest))) (sym (w .count))
+              ∙ ap (λ (l : List ℤ). scanOf (length ws) pointsIn more (readGroups n more l)) (group-placed .0);
+        }

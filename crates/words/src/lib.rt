@@ -1,0 +1,165 @@
+// The word list of a mask: the first word at fault, or how many points it has. Functions take the
+// list and a place in it; what stands there is what a definition reads from that place on.
+use fault::Fault;
+ghost use mathlib.Core.Path.{_≡_};
+ghost use Prim.Native.Nat.{_+_, _≤_};
+ghost use lib.ListN.{length, drop};
+ghost use Rattle.words.specs.Words.{beyond, readCount, readCoordinate, readPoint, readPoints, readContour, readContours, readGroup, readWords, pointsOf, pointsIn};
+ghost use Rattle.words.specs.Scan.{countedOf, checkedOf, scanOf, groupPoints};
+
+// Points that a list may have.
+pub const MOST_POINTS: usize = 2048;
+
+// A count word.
+pub enum Counted {
+    Count(usize),
+    Refused(Fault),
+}
+
+// A word or a pair of words that is only checked.
+pub enum Checked {
+    Good,
+    Refused(Fault),
+}
+
+// How reading goes on: at a place of the list, behind so many of its points.
+pub enum Scan {
+    At(usize, usize),
+    Refused(Fault),
+}
+
+// The count word at a place.
+pub fn count_at(words: &[i32], at: usize) -> Counted
+    ensures { λ r. ⌜ r ≡ countedOf (readCount (drop at (now (words .entry)))) ⌝ }
+{
+    if words.len() <= at {
+        return Counted::Refused(Fault::ListEndsEarly);
+    }
+    let word = words[at];
+    if word < 0 {
+        return Counted::Refused(Fault::CountOutOfRange);
+    }
+    Counted::Count(word as usize)
+}
+
+// Whether a coordinate lies beyond its limit.
+fn is_beyond(word: i32) -> bool
+    ensures { λ r. ⌜ r ≡ beyond word ⌝ }
+{
+    if word < -1048576 {
+        return true;
+    }
+    1048576 < word
+}
+
+// The coordinate word at a place.
+fn coordinate_at(words: &[i32], at: usize) -> Checked
+    ensures { λ r. ⌜ r ≡ checkedOf (readCoordinate (drop at (now (words .entry)))) ⌝ }
+{
+    if words.len() <= at {
+        return Checked::Refused(Fault::ListEndsEarly);
+    }
+    if is_beyond(words[at]) {
+        return Checked::Refused(Fault::CoordinateOutOfRange);
+    }
+    Checked::Good
+}
+
+// The pair of coordinates at a place.
+fn point_at(words: &[i32], at: usize) -> Checked
+    ensures { λ r. ⌜ r ≡ checkedOf (readPoint (drop at (now (words .entry)))) ⌝ }
+{
+    match coordinate_at(words, at) {
+        Checked::Refused(f) => Checked::Refused(f),
+        Checked::Good => coordinate_at(words, at + 1),
+    }
+}
+
+// The n points of a contour, behind `before` points of the list.
+fn points_at(words: &[i32], from: usize, n: usize, before: usize) -> Scan
+    requires { ⌜ (before + n ≤ 2048) × (from ≤ length (now words)) ⌝ }
+    ensures { λ r. ⌜ r ≡ scanOf (length (now (words .entry))) length before (readPoints n (drop from (now (words .entry)))) ⌝ }
+{
+    let mut at = from;
+    let mut left = n;
+    while 0 < left {
+        match point_at(words, at) {
+            Checked::Refused(f) => return Scan::Refused(f),
+            Checked::Good => {
+                at += 2;
+            }
+        }
+        left -= 1;
+    }
+    Scan::At(at, before + n)
+}
+
+// A contour.
+fn contour_at(words: &[i32], from: usize, before: usize) -> Scan
+    requires { ⌜ before ≤ 2048 ⌝ }
+    ensures { λ r. ⌜ r ≡ scanOf (length (now (words .entry))) length before (readContour before (drop from (now (words .entry)))) ⌝ }
+{
+    match count_at(words, from) {
+        Counted::Refused(f) => Scan::Refused(f),
+        Counted::Count(n) => {
+            if MOST_POINTS - before < n {
+                Scan::Refused(Fault::CountOutOfRange)
+            } else {
+                points_at(words, from + 1, n, before)
+            }
+        }
+    }
+}
+
+// n contours.
+fn contours_at(words: &[i32], from: usize, n: usize, before: usize) -> Scan
+    requires { ⌜ (before ≤ 2048) × (from ≤ length (now words)) ⌝ }
+    ensures { λ r. ⌜ r ≡ scanOf (length (now (words .entry))) pointsOf before (readContours n before (drop from (now (words .entry)))) ⌝ }
+{
+    let mut at = from;
+    let mut points = before;
+    let mut left = n;
+    while 0 < left {
+        match contour_at(words, at, points) {
+            Scan::Refused(f) => return Scan::Refused(f),
+            Scan::At(next, more) => {
+                at = next;
+                points = more;
+            }
+        }
+        left -= 1;
+    }
+    Scan::At(at, points)
+}
+
+// A group.
+fn group_at(words: &[i32], from: usize, before: usize) -> Scan
+    requires { ⌜ before ≤ 2048 ⌝ }
+    ensures { λ r. ⌜ r ≡ scanOf (length (now (words .entry))) groupPoints before (readGroup before (drop from (now (words .entry)))) ⌝ }
+{
+    if words.len() <= from {
+        return Scan::Refused(Fault::ListEndsEarly);
+    }
+    match count_at(words, from + 1) {
+        Counted::Refused(f) => Scan::Refused(f),
+        Counted::Count(n) => contours_at(words, from + 2, n, before),
+    }
+}
+
+// The whole list.
+pub fn read_words(words: &[i32]) -> Scan
+    ensures { λ r. ⌜ r ≡ scanOf (length (now (words .entry))) pointsIn 0 (readWords (now (words .entry))) ⌝ }
+{
+    let mut at = 0;
+    let mut points = 0;
+    while at < words.len() {
+        match group_at(words, at, points) {
+            Scan::Refused(f) => return Scan::Refused(f),
+            Scan::At(next, more) => {
+                at = next;
+                points = more;
+            }
+        }
+    }
+    Scan::At(at, points)
+}
