@@ -66,7 +66,7 @@ unfoldable pub inverseOf : Transform2D → Transform2D
 inverseOf t = cond (collapsedOf (determinantOf t)) identityFrame (inverseBy t (div binary64 one64 (determinantOf t)))
 
 -- Div
-abbrev pub quotientOf : Transform2D → Transform2D → Transform2D
+unfoldable pub quotientOf : Transform2D → Transform2D → Transform2D
 quotientOf s o = productOf s (inverseOf o)
 
 -- Bounds::from_points: where the fold begins, its step, and the fold

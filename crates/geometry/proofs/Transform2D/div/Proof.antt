@@ -1,4 +1,5 @@
 -- `geometry::Transform2D::div` meets its contract: the callees' contracts. Assumes nothing.
+use Rattle.geometry.specs.Frame.{quotientOf}
 use borrow.Author.Needs.{needs}
 use Rattle.geometry.proofs.Transform2D.div.Statement.{statement}
 use Rattle.geometry.proofs.Transform2D.div.Tie as tie
@@ -10,6 +11,7 @@ mul-requires : tie.Need-mul-requires
 mul-requires c κs = search needs
 
 returns : tie.Need-returns
+unfolding quotientOf
 returns c = cc
 
 pub div-spec : {M : Type 1} → statement M
