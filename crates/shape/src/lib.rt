@@ -7,8 +7,8 @@ ghost use mathlib.Core.Path.{_≡_};
 ghost use Prim.Native.Nat.{_<_};
 ghost use Rattle.shape.specs.Checks.{inRangeOf, bothInRangeOf, frameInRangeOf, boxInRangeOf, improperSideOf, improperOf, boxCheckOf, numbersCheckOf, frameCheckOf, fringeCheckOf, pointCheckOf, _andThen_};
 ghost use Rattle.shape.specs.Coverage.{invertibleOf, uncoveredOf, thinOf, tightOf, keptRadiiOf, coverageOf, offCornerOf, leanOf, cornerDistanceOf, distanceOf, outlinePointOf, holdsPointOf, containsOf, touchesOf};
-ghost use Rattle.shape.specs.Beside.{scaleOf, alignedOf, straightOf, crossedOf, straightBy, crossedBy, alongsideOf, parallelOf, squareOf, bothSquareOf, sidesOf, betweenOf, raisedOf, rectIntersectionOf};
-ghost use Rattle.shape.specs.Calls.{boxAnswer, coverageAnswer, cornerAtOf, boundsOf, transformedCall, coverageCall, boundsCall, parallelCall, rectIntersectionCall, distanceCall, containsCall, touchesCall};
+ghost use Rattle.shape.specs.Beside.{scaleOf, alignedOf, straightOf, crossedOf, straightBy, crossedBy, alongsideOf, parallelOf, squareOf, bothSquareOf, sidesOf, betweenOf, raisedOf, rectIntersectionOf, apartOf, sidesAreOf, ownSidesOf, placedSidesOf, withCornersOf, coveredOf, coversOf, nearOf, followsOf, roundOverlapOf, overlapOf, intersectionWithinOf};
+ghost use Rattle.shape.specs.Calls.{boxAnswer, coverageAnswer, cornerAtOf, boundsOf, transformedCall, coverageCall, boundsCall, parallelCall, rectIntersectionCall, intersectionCall, distanceCall, containsCall, touchesCall};
 use fault::Fault;
 use geometry::Bounds;
 use geometry::Position;
@@ -683,9 +683,190 @@ impl RoundedBox {
         }
         self.rect_intersection_unchecked(other).answer()
     }
+
+    // This box's own sides.
+    fn own_sides(self) -> Sides
+        ensures { λ r. ⌜ r ≡ ownSidesOf self ⌝ }
+    {
+        Sides {
+            lowx: -self.ex,
+            lowy: -self.ey,
+            highx: self.ex,
+            highy: self.ey,
+        }
+    }
+
+    // This box with round corners, as far as its extent allows.
+    fn with_corners(self, rx: f32, ry: f32) -> Self
+        ensures { λ r. ⌜ r ≡ withCornersOf self rx ry ⌝ }
+    {
+        let frame = self.frame;
+        let rx = float::min(rx, self.ex);
+        let ry = float::min(ry, self.ey);
+        Self {
+            frame,
+            ex: self.ex,
+            ey: self.ey,
+            rx,
+            ry,
+        }
+    }
+
+    // Whether `other` is a rect whose sides all lie at or past this box's.
+    fn covered_by(self, other: Self, s: Sides) -> bool
+        ensures { λ r. ⌜ r ≡ coveredOf self other s ⌝ }
+    {
+        if other.square() {
+            return s.are(self.own_sides());
+        }
+        false
+    }
+
+    // Whether this box is a rect whose sides all lie at or past those of a box placed in its frame.
+    fn covers(self, p: Placed, s: Sides) -> bool
+        ensures { λ r. ⌜ r ≡ coversOf self p s ⌝ }
+    {
+        if self.square() {
+            return s.are(p.sides());
+        }
+        false
+    }
+
+    // Whether this box's outline stays within `slack` of the further of two boxes' edges.
+    fn follows(self, mine: ClipCoverage, theirs: ClipCoverage, slack: f32) -> bool
+        ensures { λ r. ⌜ r ≡ followsOf self mine theirs slack ⌝ }
+    {
+        let mut i: usize = 0;
+        while i < 36 {
+            if mine.near(theirs, slack, self.outline_point(i)) {
+                i += 1;
+            } else {
+                return false;
+            }
+        }
+        true
+    }
+
+    // The first of two candidates that follows this box's and `other`'s edges.
+    fn round_overlap(
+        self,
+        other: Self,
+        first: Self,
+        second: Self,
+        fringe: f32,
+        slack: f32,
+    ) -> MaybeBox
+        ensures { λ r. ⌜ r ≡ roundOverlapOf self other first second fringe slack ⌝ }
+    {
+        let MaybeCoverage::Coverage(mine) = self.coverage_unchecked(fringe) else {
+            return MaybeBox::NoBox;
+        };
+        let MaybeCoverage::Coverage(theirs) = other.coverage_unchecked(fringe) else {
+            return MaybeBox::NoBox;
+        };
+        if first.follows(mine, theirs, slack) {
+            return MaybeBox::Box(first);
+        }
+        if second.follows(mine, theirs, slack) {
+            return MaybeBox::Box(second);
+        }
+        MaybeBox::NoBox
+    }
+
+    // The overlap of this box with `other`, which is placed at p and shares the sides s with it.
+    fn overlap(self, other: Self, p: Placed, s: Sides, fringe: f32, slack: f32) -> MaybeBox
+        ensures { λ r. ⌜ r ≡ overlapOf self other p s fringe slack ⌝ }
+    {
+        let both = self.between(s);
+        if self.both_square(other) {
+            return MaybeBox::Box(both.with_corners(0.0, 0.0));
+        }
+        if self.covered_by(other, s) {
+            return MaybeBox::Box(self);
+        }
+        let theirs = both.with_corners(p.rx, p.ry);
+        if self.covers(p, s) {
+            return MaybeBox::Box(theirs);
+        }
+        let mine = both.with_corners(self.rx, self.ry);
+        self.round_overlap(other, theirs, mine, fringe, slack)
+    }
+
+    pub fn intersection_within_unchecked(self, other: Self, fringe: f32, slack: f32) -> MaybeBox
+        ensures { λ r. ⌜ r ≡ intersectionWithinOf self other fringe slack ⌝ }
+    {
+        let Alongside::Placed(p) = self.alongside(other) else {
+            return MaybeBox::NoBox;
+        };
+        let s = self.sides(p);
+        if s.apart() {
+            return MaybeBox::NoBox;
+        }
+        self.overlap(other, p, s, fringe, slack)
+    }
+
+    // What both this box and `other` cover, as one box within CONTAINMENT_SLACK, when their sides are
+    // parallel: exactly for two rectangles; with round corners, the box with the nearer of each pair
+    // of sides and the corners of one of the two, when its outline stays close to both.
+    // Ruled out: a fault of the second box told before one of the first; no box for two square boxes
+    // at a fringe of 0, which they do not ask.
+    pub fn intersection(self, other: Self, fringe: f32) -> BoxAnswer
+        ensures { λ r. ⌜ r ≡ intersectionCall self other fringe ⌝ }
+    {
+        if let Check::Refused(fault) = self
+            .check()
+            .and_then(other.check())
+            .and_then(Check::fringe(fringe))
+        {
+            return BoxAnswer::Refused(fault);
+        }
+        self
+            .intersection_within_unchecked(other, fringe, ClipCoverage::CONTAINMENT_SLACK)
+            .answer()
+    }
+}
+
+impl Placed {
+    fn sides(self) -> Sides
+        ensures { λ r. ⌜ r ≡ placedSidesOf self ⌝ }
+    {
+        Sides {
+            lowx: self.x - self.hx,
+            lowy: self.y - self.hy,
+            highx: self.x + self.hx,
+            highy: self.y + self.hy,
+        }
+    }
 }
 
 impl Sides {
+    // Whether nothing lies between.
+    fn apart(self) -> bool
+        ensures { λ r. ⌜ r ≡ apartOf self ⌝ }
+    {
+        let lowx = self.lowx;
+        let highx = self.highx;
+        if lowx >= highx {
+            return true;
+        }
+        self.lowy >= self.highy
+    }
+
+    fn are(self, other: Self) -> bool
+        ensures { λ r. ⌜ r ≡ sidesAreOf self other ⌝ }
+    {
+        let lowx = self.lowx;
+        let lowy = self.lowy;
+        let highx = self.highx;
+        if lowx == other.lowx {
+            if lowy == other.lowy {
+                if highx == other.highx {
+                    return self.highy == other.highy;
+                }
+            }
+        }
+        false
+    }
     // The sides with each high one no lower than its low one.
     fn raised(self) -> Self
         ensures { λ r. ⌜ r ≡ raisedOf self ⌝ }
@@ -764,6 +945,15 @@ impl ClipCoverage {
             return DistanceAnswer::Refused(fault);
         }
         DistanceAnswer::Distance(self.distance_unchecked(p))
+    }
+
+    // Whether a point is within `slack` of the further of this box's and another's edges.
+    fn near(self, other: Self, slack: f32, p: Position) -> bool
+        ensures { λ r. ⌜ r ≡ nearOf self other slack p ⌝ }
+    {
+        let mine = self.distance_unchecked(p);
+        let theirs = other.distance_unchecked(p);
+        float::abs(float::max(mine, theirs)) <= slack
     }
 
     // Whether a point lies inside, within CONTAINMENT_SLACK.

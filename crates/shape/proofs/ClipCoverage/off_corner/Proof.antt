@@ -5,15 +5,15 @@ use Rattle.shape.proofs.ClipCoverage.off_corner.Tie as tie
 
 returns : tie.Need-returns
 unfolding offCornerOf
-returns c = simp (c .before .before .if1 .taken, c .before .if2 .taken)
+returns c = rw (c .before .before .if1 .taken, c .before .if2 .taken)
 
 returns-2 : tie.Need-returns-2
 unfolding offCornerOf
-returns-2 c = simp (c .before .if1 .taken, c .if2 .left)
+returns-2 c = rw (c .before .if1 .taken, c .if2 .left)
 
 returns-3 : tie.Need-returns-3
 unfolding offCornerOf
-returns-3 c = simp (c .if1 .left)
+returns-3 c = rw (c .if1 .left)
 
 pub off-corner-spec : {M : Type 1} → statement M
 off-corner-spec = tie.close (tie.spec returns returns-2 returns-3)

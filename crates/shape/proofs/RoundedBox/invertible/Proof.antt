@@ -9,11 +9,11 @@ is-finite-requires c κs = search needs
 
 returns : tie.Need-returns
 unfolding invertibleOf
-returns c = simp (c .before .if1 .taken) (c .is-finite .ensures)
+returns c = rw (c .before .if1 .taken) (c .is-finite .ensures)
 
 returns-2 : tie.Need-returns-2
 unfolding invertibleOf
-returns-2 c = simp (c .if1 .left)
+returns-2 c = rw (c .if1 .left)
 
 pub invertible-spec : {M : Type 1} → statement M
 invertible-spec = tie.close (tie.spec is-finite-requires returns returns-2)

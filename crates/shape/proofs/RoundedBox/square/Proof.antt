@@ -5,11 +5,11 @@ use Rattle.shape.proofs.RoundedBox.square.Tie as tie
 
 returns : tie.Need-returns
 unfolding squareOf
-returns c = simp (c .if1 .taken)
+returns c = rw (c .if1 .taken)
 
 returns-2 : tie.Need-returns-2
 unfolding squareOf
-returns-2 c = simp (c .if1 .left)
+returns-2 c = rw (c .if1 .left)
 
 pub square-spec : {M : Type 1} → statement M
 square-spec = tie.close (tie.spec returns returns-2)

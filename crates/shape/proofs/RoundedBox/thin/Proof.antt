@@ -5,11 +5,11 @@ use Rattle.shape.proofs.RoundedBox.thin.Tie as tie
 
 returns : tie.Need-returns
 unfolding thinOf
-returns c = simp (c .if1 .taken)
+returns c = rw (c .if1 .taken)
 
 returns-2 : tie.Need-returns-2
 unfolding thinOf
-returns-2 c = simp (c .if1 .left)
+returns-2 c = rw (c .if1 .left)
 
 pub thin-spec : {M : Type 1} → statement M
 thin-spec = tie.close (tie.spec returns returns-2)
