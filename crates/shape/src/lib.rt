@@ -813,15 +813,12 @@ impl RoundedBox {
     pub fn intersection(self, other: Self, fringe: f32) -> BoxAnswer
         ensures { λ r. ⌜ r ≡ intersectionCall self other fringe ⌝ }
     {
-        if let Check::Refused(fault) = self
-            .check()
+        if let Check::Refused(fault) = self.check()
             .and_then(other.check())
-            .and_then(Check::fringe(fringe))
-        {
+            .and_then(Check::fringe(fringe)) {
             return BoxAnswer::Refused(fault);
         }
-        self
-            .intersection_within_unchecked(other, fringe, ClipCoverage::CONTAINMENT_SLACK)
+        self.intersection_within_unchecked(other, fringe, ClipCoverage::CONTAINMENT_SLACK)
             .answer()
     }
 }

@@ -1,0 +1,18 @@
+-- `fit::Corners::turns` meets its contract. Assumes nothing.
+use Rattle.fit.specs.Fit.{turnsOf}
+use borrow.Author.Needs.{needs}
+use Rattle.fit.proofs.Corners.turns.Statement.{statement}
+use Rattle.fit.proofs.Corners.turns.Tie as tie
+
+cross-requires : tie.Need-cross-requires
+cross-requires c κs = search needs
+
+abs-requires : tie.Need-abs-requires
+abs-requires c κs = search needs
+
+returns : tie.Need-returns
+unfolding turnsOf
+returns c = rw (c .abs .ensures, c .before .cross .ensures)
+
+pub turns-spec : {M : Type 1} → statement M
+turns-spec = tie.close (tie.spec cross-requires abs-requires returns)
