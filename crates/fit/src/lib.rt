@@ -533,7 +533,8 @@ pub fn fit_unchecked(verbs: &[u8], positions: &[f32]) -> MaybeBox
 
 // The box that an outline draws, if it is one: a single contour that goes once around a
 // parallelogram.
-// Ruled out: a box for an outline of five corners; the close tolerance taken for the turn tolerance.
+// Ruled out: a box for an outline with a fifth corner; no box for a thin one, whose turns pass 1e-4 of
+// the size squared and not 1e-4 of the size.
 pub fn fit(verbs: &[u8], positions: &[f32]) -> BoxAnswer
     ensures { λ r. ⌜ r ≡ fitCall (now (verbs .entry)) (now (positions .entry)) ⌝ }
 {

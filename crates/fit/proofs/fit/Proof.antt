@@ -7,7 +7,7 @@ use Rattle.fit.proofs.fit.Statement.{statement}
 use Rattle.fit.proofs.fit.Tie as tie
 
 outline-check-requires : tie.Need-outline-check-requires
-outline-check-requires c κs = search needs
+outline-check-requires c κs = tt
 
 enum-known-fault : tie.Need-enum-known-fault
 enum-known-fault c = search needs
@@ -22,7 +22,7 @@ fit-unchecked-requires : tie.Need-fit-unchecked-requires
 fit-unchecked-requires c κs = pass-means (now (c .before .before .before .before .before .args .verbs)) (now (c .before .before .before .before .before .args .positions)) (sym (c .before .before .outline-check .ensures) ∙ c .enum-told .given .1)
 
 answer-requires : tie.Need-answer-requires
-answer-requires c κs = search needs
+answer-requires c κs = tt
 
 returns-2 : tie.Need-returns-2
 returns-2 c = rw (← c .before .before .before .before .outline-check .ensures, c .before .before .enum-told .given .1, ← c .before .fit-unchecked .ensures) (c .answer .ensures)

@@ -1,14 +1,14 @@
 -- `fit::fit_unchecked` meets its contract: where the walk ended, and the box of its contour. Assumes nothing.
 use Rattle.fit.proofs.Closing.{ended-stop, ended-go, ended-few}
-use Rattle.fit.specs.Fit.{fitOf, contourOf, Ended}
-use Rattle.fit.specs.declared.Step.{Step}
+use Rattle.fit.specs.Fit.{fitOf, contourOf}
 use denote.Ref.{now}
+use mathlib.Core.Path.{refl}
 use borrow.Author.Needs.{needs}
 use Rattle.fit.proofs.fit_unchecked.Statement.{statement}
 use Rattle.fit.proofs.fit_unchecked.Tie as tie
 
 contour-requires : tie.Need-contour-requires
-contour-requires c κs = search needs
+contour-requires c κs = (c .before .before .before .before .pre .0, (c .before .before .before .before .pre .1, (refl, refl)))
 
 enum-known-walk : tie.Need-enum-known-walk
 enum-known-walk c = search needs

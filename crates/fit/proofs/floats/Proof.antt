@@ -7,7 +7,7 @@ use Rattle.fit.proofs.floats.Statement.{statement}
 use Rattle.fit.proofs.floats.Tie as tie
 
 from-byte-requires : tie.Need-from-byte-requires
-from-byte-requires c κs = search needs
+from-byte-requires c κs = tt
 
 enum-known-packed : tie.Need-enum-known-packed
 enum-known-packed c = search needs
@@ -20,7 +20,7 @@ unfolding floatsOf
 returns c = rw (← c .before .before .from-byte .ensures, c .enum-told .given .1)
 
 num-coordinates-requires : tie.Need-num-coordinates-requires
-num-coordinates-requires c κs = search needs
+num-coordinates-requires c κs = tt
 
 mul-result : tie.Need-mul-result
 mul-result c = let few = packed-le (c .before .before .packed .given .0 .0) in let e = c .num-coordinates .ensures in omega arith

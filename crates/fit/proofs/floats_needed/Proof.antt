@@ -23,7 +23,7 @@ shared-slice-read-floats : tie.Need-shared-slice-read-floats Inv-loop μ-loop
 shared-slice-read-floats c = c .before .loop-test .taken
 
 floats-requires : tie.Need-floats-requires Inv-loop μ-loop
-floats-requires c κs = search needs
+floats-requires c κs = tt
 
 add-sum : tie.Need-add-sum Inv-loop μ-loop
 add-sum c =

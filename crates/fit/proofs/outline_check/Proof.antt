@@ -10,7 +10,7 @@ unfolding outlineCheckOf
 returns c = rw (lt-leb _ _ (c .if1 .taken))
 
 verbs-check-requires : tie.Need-verbs-check-requires
-verbs-check-requires c κs = search needs
+verbs-check-requires c κs = tt
 
 enum-known-fault : tie.Need-enum-known-fault
 enum-known-fault c = search needs
@@ -23,17 +23,17 @@ enum-told : tie.Need-enum-told
 enum-told c = search needs
 
 floats-needed-requires : tie.Need-floats-needed-requires
-floats-needed-requires c κs = search needs
+floats-needed-requires c κs = c .before .before .before .if1 .left
 
 returns-3 : tie.Need-returns-3
 unfolding outlineCheckOf
 returns-3 c = rw (le-leb _ _ (c .before .before .before .before .before .if1 .left), ← c .before .before .before .before .verbs-check .ensures, c .before .before .enum-told .given .1, ← c .before .floats-needed .ensures, ne-eqb _ _ (c .if2 .taken))
 
 all-in-range-requires : tie.Need-all-in-range-requires
-all-in-range-requires c κs = search needs
+all-in-range-requires c κs = tt
 
 numbers-requires : tie.Need-numbers-requires
-numbers-requires c κs = search needs
+numbers-requires c κs = tt
 
 returns-4 : tie.Need-returns-4
 unfolding outlineCheckOf

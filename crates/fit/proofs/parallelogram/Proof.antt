@@ -2,16 +2,16 @@
 use Rattle.fit.proofs.Points.{points-length}
 use Rattle.fit.proofs.Turning.{not-four}
 use Rattle.fit.specs.Fit.{parallelogramOf, pointsIn}
-use mathlib.Core.Path.{sym, _∙_}
+use mathlib.Core.Path.{refl, sym, _∙_}
 use borrow.Author.Needs.{needs}
 use Rattle.fit.proofs.parallelogram.Statement.{statement}
 use Rattle.fit.proofs.parallelogram.Tie as tie
 
 size-requires : tie.Need-size-requires
-size-requires c κs = search needs
+size-requires c κs = c .pre
 
 turning-points-requires : tie.Need-turning-points-requires
-turning-points-requires c κs = search needs
+turning-points-requires c κs = (c .before .before .before .pre, (refl, refl))
 
 array-read-t18 : tie.Need-array-read-t18
 array-read-t18 c = search needs
@@ -38,7 +38,7 @@ array-read-t21-4 : tie.Need-array-read-t21-4
 array-read-t21-4 c = search needs
 
 parallelogram-requires : tie.Need-parallelogram-requires
-parallelogram-requires c κs = search needs
+parallelogram-requires c κs = tt
 
 returns : tie.Need-returns
 unfolding parallelogramOf pointsIn

@@ -32,10 +32,10 @@ element-copy-out-t16 : tie.Need-element-copy-out-t16 Inv-loop μ-loop
 element-copy-out-t16 c = search needs
 
 reach-requires : tie.Need-reach-requires Inv-loop μ-loop
-reach-requires c κs = search needs
+reach-requires c κs = tt
 
 max-requires : tie.Need-max-requires Inv-loop μ-loop
-max-requires c κs = search needs
+max-requires c κs = tt
 
 add-i : tie.Need-add-i Inv-loop μ-loop
 add-i c = search needs

@@ -1,10 +1,9 @@
 -- `fit::turn` meets its contract. Assumes nothing.
-use borrow.Author.Needs.{needs}
 use Rattle.fit.proofs.turn.Statement.{statement}
 use Rattle.fit.proofs.turn.Tie as tie
 
 turns-at-requires : tie.Need-turns-at-requires
-turns-at-requires c κs = search needs
+turns-at-requires c κs = c .pre
 
 returns : tie.Need-returns
 returns c = rw (← c .before .turns-at .ensures, c .if1 .taken)

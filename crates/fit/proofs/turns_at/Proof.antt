@@ -61,7 +61,7 @@ element-copy-out-t18-3 : tie.Need-element-copy-out-t18-3
 element-copy-out-t18-3 c = let some : 0 < c .before .before .before .before .before .args .n = omega arith in omega (arith, mod-lt (c .before .before .before .before .before .args .i + 1) some)
 
 turns-requires : tie.Need-turns-requires
-turns-requires c κs = search needs
+turns-requires c κs = tt
 
 returns : tie.Need-returns
 returns c = c .turns .ensures ∙ turns-here (now (c .before .before .before .before .before .before .before .args .xs)) (now (c .before .before .before .before .before .before .before .args .ys)) (c .before .before .before .before .before .before .before .args .n) (c .before .before .before .before .before .before .before .args .size) (c .before .before .before .before .before .before .before .args .i) (c .before .before .before .before .before .before .before .pre .1)

@@ -5,7 +5,7 @@ use Rattle.fit.proofs.verb_check.Statement.{statement}
 use Rattle.fit.proofs.verb_check.Tie as tie
 
 from-byte-requires : tie.Need-from-byte-requires
-from-byte-requires c κs = search needs
+from-byte-requires c κs = tt
 
 enum-known-packed : tie.Need-enum-known-packed
 enum-known-packed c = search needs

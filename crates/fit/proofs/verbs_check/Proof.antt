@@ -23,7 +23,7 @@ shared-slice-read-verb-check : tie.Need-shared-slice-read-verb-check Inv-loop μ
 shared-slice-read-verb-check c = c .before .loop-test .taken
 
 verb-check-requires : tie.Need-verb-check-requires Inv-loop μ-loop
-verb-check-requires c κs = search needs
+verb-check-requires c κs = tt
 
 enum-known-fault : tie.Need-enum-known-fault Inv-loop μ-loop
 enum-known-fault c = search needs

@@ -1,14 +1,13 @@
 -- `fit::Corners::centred` meets its contract. Assumes nothing.
 use Rattle.fit.specs.Fit.{centredOf}
-use borrow.Author.Needs.{needs}
 use Rattle.fit.proofs.Corners.centred.Statement.{statement}
 use Rattle.fit.proofs.Corners.centred.Tie as tie
 
 close-requires : tie.Need-close-requires
-close-requires c κs = search needs
+close-requires c κs = tt
 
 close-requires-2 : tie.Need-close-requires-2
-close-requires-2 c κs = search needs
+close-requires-2 c κs = tt
 
 returns : tie.Need-returns
 unfolding centredOf

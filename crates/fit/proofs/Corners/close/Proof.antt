@@ -1,11 +1,10 @@
 -- `fit::Corners::close` meets its contract. Assumes nothing.
 use Rattle.fit.specs.Fit.{closeOf}
-use borrow.Author.Needs.{needs}
 use Rattle.fit.proofs.Corners.close.Statement.{statement}
 use Rattle.fit.proofs.Corners.close.Tie as tie
 
 abs-requires : tie.Need-abs-requires
-abs-requires c κs = search needs
+abs-requires c κs = tt
 
 returns : tie.Need-returns
 unfolding closeOf

@@ -1,20 +1,19 @@
 -- `fit::Corners::parallelogram` meets its contract. Assumes nothing.
 use Rattle.fit.specs.Fit.{cornersBoxOf}
-use borrow.Author.Needs.{needs}
 use Rattle.fit.proofs.Corners.parallelogram.Statement.{statement}
 use Rattle.fit.proofs.Corners.parallelogram.Tie as tie
 
 centred-requires : tie.Need-centred-requires
-centred-requires c κs = search needs
+centred-requires c κs = tt
 
 half-side-requires : tie.Need-half-side-requires
-half-side-requires c κs = search needs
+half-side-requires c κs = tt
 
 half-side-requires-2 : tie.Need-half-side-requires-2
-half-side-requires-2 c κs = search needs
+half-side-requires-2 c κs = tt
 
 spanned-requires : tie.Need-spanned-requires
-spanned-requires c κs = search needs
+spanned-requires c κs = tt
 
 returns : tie.Need-returns
 unfolding cornersBoxOf

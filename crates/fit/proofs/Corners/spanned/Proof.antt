@@ -1,14 +1,13 @@
 -- `fit::Corners::spanned` meets its contract. Assumes nothing.
 use Rattle.fit.specs.Fit.{spannedOf}
-use borrow.Author.Needs.{needs}
 use Rattle.fit.proofs.Corners.spanned.Statement.{statement}
 use Rattle.fit.proofs.Corners.spanned.Tie as tie
 
 hypot-requires : tie.Need-hypot-requires
-hypot-requires c κs = search needs
+hypot-requires c κs = tt
 
 hypot-requires-2 : tie.Need-hypot-requires-2
-hypot-requires-2 c κs = search needs
+hypot-requires-2 c κs = tt
 
 returns : tie.Need-returns
 unfolding spannedOf

@@ -1,14 +1,13 @@
 -- `fit::Corners::turns` meets its contract. Assumes nothing.
 use Rattle.fit.specs.Fit.{turnsOf}
-use borrow.Author.Needs.{needs}
 use Rattle.fit.proofs.Corners.turns.Statement.{statement}
 use Rattle.fit.proofs.Corners.turns.Tie as tie
 
 cross-requires : tie.Need-cross-requires
-cross-requires c κs = search needs
+cross-requires c κs = tt
 
 abs-requires : tie.Need-abs-requires
-abs-requires c κs = search needs
+abs-requires c κs = tt
 
 returns : tie.Need-returns
 unfolding turnsOf

@@ -5,7 +5,7 @@ use Rattle.fit.proofs.Walk.draw.Statement.{statement}
 use Rattle.fit.proofs.Walk.draw.Tie as tie
 
 shut-requires : tie.Need-shut-requires
-shut-requires c κs = search needs
+shut-requires c κs = tt
 
 returns : tie.Need-returns
 returns c = λ k e. draw-shut (c .before .before .args .self) k e (c .before .shut .result) (c .before .shut .ensures) (c .before .before .args .segment) (c .if1 .taken)
@@ -14,7 +14,7 @@ enum-known-segment : tie.Need-enum-known-segment
 enum-known-segment c = search needs
 
 same-place-requires : tie.Need-same-place-requires
-same-place-requires c κs = search needs
+same-place-requires c κs = tt
 
 returns-2 : tie.Need-returns-2
 returns-2 c =
@@ -26,13 +26,13 @@ returns-2 c =
     λ k e. draw-same (at-args .args .self) k e (at-shut .shut .result) (at-shut .shut .ensures) (at-if1 .if1 .left) (at-args .args .segment) _ _ (at-segment .segment .given .1) (at-same-place .same-place .result) (at-same-place .same-place .ensures) (c .if2 .taken)
 
 pushed-requires : tie.Need-pushed-requires
-pushed-requires c κs = search needs
+pushed-requires c κs = c .before .before .before .before .before .before .before .pre
 
 enum-known-segment-2 : tie.Need-enum-known-segment-2
 enum-known-segment-2 c = search needs
 
 pushed-requires-2 : tie.Need-pushed-requires-2
-pushed-requires-2 c κs = search needs
+pushed-requires-2 c κs = c .before .before .before .before .before .pre
 
 returns-3 : tie.Need-returns-3
 returns-3 c =

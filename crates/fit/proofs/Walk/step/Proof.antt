@@ -8,19 +8,19 @@ enum-known-verb : tie.Need-enum-known-verb
 enum-known-verb c = search needs
 
 move-to-requires : tie.Need-move-to-requires
-move-to-requires c κs = search needs
+move-to-requires c κs = tt
 
 enum-known-verb-2 : tie.Need-enum-known-verb-2
 enum-known-verb-2 c = search needs
 
 draw-requires : tie.Need-draw-requires
-draw-requires c κs = search needs
+draw-requires c κs = c .before .before .before .pre
 
 enum-known-verb-3 : tie.Need-enum-known-verb-3
 enum-known-verb-3 c = search needs
 
 draw-requires-2 : tie.Need-draw-requires-2
-draw-requires-2 c κs = search needs
+draw-requires-2 c κs = c .before .before .before .pre
 
 enum-told : tie.Need-enum-told
 enum-told c = search needs
@@ -32,7 +32,7 @@ enum-told-3 : tie.Need-enum-told-3
 enum-told-3 c = search needs
 
 close-requires : tie.Need-close-requires
-close-requires c κs = search needs
+close-requires c κs = tt
 
 returns : tie.Need-returns
 returns c = λ k e. rw (c .before .before .verb .given .1) (c .move-to .ensures k e)

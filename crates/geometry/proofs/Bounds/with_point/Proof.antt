@@ -1,19 +1,18 @@
 -- `geometry::Bounds::with_point` meets its contract: the callees' contracts, field by field. Assumes nothing.
-use borrow.Author.Needs.{needs}
 use Rattle.geometry.proofs.Bounds.with_point.Statement.{statement}
 use Rattle.geometry.proofs.Bounds.with_point.Tie as tie
 
 min-requires : tie.Need-min-requires
-min-requires c κs = search needs
+min-requires c κs = tt
 
 min-requires-2 : tie.Need-min-requires-2
-min-requires-2 c κs = search needs
+min-requires-2 c κs = tt
 
 max-requires : tie.Need-max-requires
-max-requires c κs = search needs
+max-requires c κs = tt
 
 max-requires-2 : tie.Need-max-requires-2
-max-requires-2 c κs = search needs
+max-requires-2 c κs = tt
 
 returns : tie.Need-returns
 returns c = cc

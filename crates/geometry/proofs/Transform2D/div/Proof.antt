@@ -1,14 +1,13 @@
 -- `geometry::Transform2D::div` meets its contract: the callees' contracts. Assumes nothing.
 use Rattle.geometry.specs.Frame.{quotientOf}
-use borrow.Author.Needs.{needs}
 use Rattle.geometry.proofs.Transform2D.div.Statement.{statement}
 use Rattle.geometry.proofs.Transform2D.div.Tie as tie
 
 inverse-requires : tie.Need-inverse-requires
-inverse-requires c κs = search needs
+inverse-requires c κs = tt
 
 mul-requires : tie.Need-mul-requires
-mul-requires c κs = search needs
+mul-requires c κs = tt
 
 returns : tie.Need-returns
 unfolding quotientOf

@@ -2,33 +2,32 @@
 use Rattle.geometry.specs.Frame.{inverseOf, collapsedOf, determinantOf}
 use mathlib.Core.Bool.{true, false}
 use mathlib.Core.Path.{_≡_, _∙_}
-use borrow.Author.Needs.{needs}
 use Rattle.geometry.proofs.Transform2D.inverse.Statement.{statement}
 use Rattle.geometry.proofs.Transform2D.inverse.Tie as tie
 
 widen-requires : tie.Need-widen-requires
-widen-requires c κs = search needs
+widen-requires c κs = tt
 
 widen-requires-2 : tie.Need-widen-requires-2
-widen-requires-2 c κs = search needs
+widen-requires-2 c κs = tt
 
 widen-requires-3 : tie.Need-widen-requires-3
-widen-requires-3 c κs = search needs
+widen-requires-3 c κs = tt
 
 widen-requires-4 : tie.Need-widen-requires-4
-widen-requires-4 c κs = search needs
+widen-requires-4 c κs = tt
 
 widen-requires-5 : tie.Need-widen-requires-5
-widen-requires-5 c κs = search needs
+widen-requires-5 c κs = tt
 
 widen-requires-6 : tie.Need-widen-requires-6
-widen-requires-6 c κs = search needs
+widen-requires-6 c κs = tt
 
 collapsed-requires : tie.Need-collapsed-requires
-collapsed-requires c κs = search needs
+collapsed-requires c κs = tt
 
 identity-requires : tie.Need-identity-requires
-identity-requires c κs = search needs
+identity-requires c κs = tt
 
 returns : tie.Need-returns
 unfolding inverseOf
@@ -37,22 +36,22 @@ returns c =
     c .identity .ensures ∙ simp none
 
 narrow-requires : tie.Need-narrow-requires
-narrow-requires c κs = search needs
+narrow-requires c κs = tt
 
 narrow-requires-2 : tie.Need-narrow-requires-2
-narrow-requires-2 c κs = search needs
+narrow-requires-2 c κs = tt
 
 narrow-requires-3 : tie.Need-narrow-requires-3
-narrow-requires-3 c κs = search needs
+narrow-requires-3 c κs = tt
 
 narrow-requires-4 : tie.Need-narrow-requires-4
-narrow-requires-4 c κs = search needs
+narrow-requires-4 c κs = tt
 
 narrow-requires-5 : tie.Need-narrow-requires-5
-narrow-requires-5 c κs = search needs
+narrow-requires-5 c κs = tt
 
 narrow-requires-6 : tie.Need-narrow-requires-6
-narrow-requires-6 c κs = search needs
+narrow-requires-6 c κs = tt
 
 returns-2 : tie.Need-returns-2
 unfolding inverseOf

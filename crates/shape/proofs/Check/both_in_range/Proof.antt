@@ -1,14 +1,13 @@
 -- `shape::Check::both_in_range` meets its contract. Assumes nothing.
 use Rattle.shape.specs.Checks.{bothInRangeOf}
-use borrow.Author.Needs.{needs}
 use Rattle.shape.proofs.Check.both_in_range.Statement.{statement}
 use Rattle.shape.proofs.Check.both_in_range.Tie as tie
 
 in-range-requires : tie.Need-in-range-requires
-in-range-requires c κs = search needs
+in-range-requires c κs = tt
 
 in-range-requires-2 : tie.Need-in-range-requires-2
-in-range-requires-2 c κs = search needs
+in-range-requires-2 c κs = tt
 
 returns : tie.Need-returns
 unfolding bothInRangeOf

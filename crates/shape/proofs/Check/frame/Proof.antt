@@ -1,13 +1,12 @@
 -- `shape::Check::frame` meets its contract. Assumes nothing.
-use borrow.Author.Needs.{needs}
 use Rattle.shape.proofs.Check.frame.Statement.{statement}
 use Rattle.shape.proofs.Check.frame.Tie as tie
 
 frame-in-range-requires : tie.Need-frame-in-range-requires
-frame-in-range-requires c κs = search needs
+frame-in-range-requires c κs = tt
 
 numbers-requires : tie.Need-numbers-requires
-numbers-requires c κs = search needs
+numbers-requires c κs = tt
 
 returns : tie.Need-returns
 returns c = cc

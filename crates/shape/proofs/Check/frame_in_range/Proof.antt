@@ -1,17 +1,16 @@
 -- `shape::Check::frame_in_range` meets its contract. Assumes nothing.
 use Rattle.shape.specs.Checks.{frameInRangeOf}
-use borrow.Author.Needs.{needs}
 use Rattle.shape.proofs.Check.frame_in_range.Statement.{statement}
 use Rattle.shape.proofs.Check.frame_in_range.Tie as tie
 
 both-in-range-requires : tie.Need-both-in-range-requires
-both-in-range-requires c κs = search needs
+both-in-range-requires c κs = tt
 
 both-in-range-requires-2 : tie.Need-both-in-range-requires-2
-both-in-range-requires-2 c κs = search needs
+both-in-range-requires-2 c κs = tt
 
 both-in-range-requires-3 : tie.Need-both-in-range-requires-3
-both-in-range-requires-3 c κs = search needs
+both-in-range-requires-3 c κs = tt
 
 returns : tie.Need-returns
 unfolding frameInRangeOf

@@ -1,14 +1,13 @@
 -- `shape::Check::in_range` meets its contract. Assumes nothing.
 use Rattle.shape.specs.Checks.{inRangeOf}
-use borrow.Author.Needs.{needs}
 use Rattle.shape.proofs.Check.in_range.Statement.{statement}
 use Rattle.shape.proofs.Check.in_range.Tie as tie
 
 is-finite-requires : tie.Need-is-finite-requires
-is-finite-requires c κs = search needs
+is-finite-requires c κs = tt
 
 abs-requires : tie.Need-abs-requires
-abs-requires c κs = search needs
+abs-requires c κs = tt
 
 returns : tie.Need-returns
 unfolding inRangeOf

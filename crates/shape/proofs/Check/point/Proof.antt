@@ -1,13 +1,12 @@
 -- `shape::Check::point` meets its contract. Assumes nothing.
-use borrow.Author.Needs.{needs}
 use Rattle.shape.proofs.Check.point.Statement.{statement}
 use Rattle.shape.proofs.Check.point.Tie as tie
 
 both-in-range-requires : tie.Need-both-in-range-requires
-both-in-range-requires c κs = search needs
+both-in-range-requires c κs = tt
 
 numbers-requires : tie.Need-numbers-requires
-numbers-requires c κs = search needs
+numbers-requires c κs = tt
 
 returns : tie.Need-returns
 returns c = cc

@@ -4,7 +4,7 @@ use Rattle.shape.proofs.ClipCoverage.contains.Statement.{statement}
 use Rattle.shape.proofs.ClipCoverage.contains.Tie as tie
 
 check-requires : tie.Need-check-requires
-check-requires c κs = search needs
+check-requires c κs = tt
 
 enum-known-fault : tie.Need-enum-known-fault
 enum-known-fault c = search needs
@@ -16,7 +16,7 @@ enum-told : tie.Need-enum-told
 enum-told c = search needs
 
 contains-unchecked-requires : tie.Need-contains-unchecked-requires
-contains-unchecked-requires c κs = search needs
+contains-unchecked-requires c κs = tt
 
 returns-2 : tie.Need-returns-2
 returns-2 c = rw (← c .before .before .before .check .ensures, c .before .enum-told .given .1, c .contains-unchecked .ensures)

@@ -1,6 +1,5 @@
 -- `shape::ClipCoverage::contains_unchecked` meets its contract: every point passed so far is inside. Assumes nothing.
 use Prim.Native.Nat.{ℕ, _≤_, _-_}
-use borrow.Author.Needs.{needs}
 use Rattle.shape.proofs.All.{none-yet, one-more, one-out}
 use Rattle.shape.specs.Coverage.{holdsPointOf, outlinePointOf, allBelow}
 use Rattle.shape.specs.declared.ClipCoverage.{ClipCoverage}
@@ -28,7 +27,7 @@ outline-point-requires : tie.Need-outline-point-requires Inv-loop μ-loop
 outline-point-requires c κs = c .loop-test .taken
 
 holds-point-requires : tie.Need-holds-point-requires Inv-loop μ-loop
-holds-point-requires c κs = search needs
+holds-point-requires c κs = tt
 
 add-i : tie.Need-add-i Inv-loop μ-loop
 add-i c = let l = c .before .before .before .loop-test .taken in omega arith

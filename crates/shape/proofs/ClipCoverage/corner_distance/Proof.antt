@@ -1,17 +1,16 @@
 -- `shape::ClipCoverage::corner_distance` meets its contract. Assumes nothing.
 use Rattle.shape.specs.Coverage.{cornerDistanceOf}
-use borrow.Author.Needs.{needs}
 use Rattle.shape.proofs.ClipCoverage.corner_distance.Statement.{statement}
 use Rattle.shape.proofs.ClipCoverage.corner_distance.Tie as tie
 
 hypot-requires : tie.Need-hypot-requires
-hypot-requires c κs = search needs
+hypot-requires c κs = tt
 
 lean-requires : tie.Need-lean-requires
-lean-requires c κs = search needs
+lean-requires c κs = tt
 
 sqrt-requires : tie.Need-sqrt-requires
-sqrt-requires c κs = search needs
+sqrt-requires c κs = tt
 
 returns : tie.Need-returns
 unfolding cornerDistanceOf

@@ -4,7 +4,7 @@ use Rattle.shape.proofs.ClipCoverage.distance.Statement.{statement}
 use Rattle.shape.proofs.ClipCoverage.distance.Tie as tie
 
 point-requires : tie.Need-point-requires
-point-requires c κs = search needs
+point-requires c κs = tt
 
 enum-known-fault : tie.Need-enum-known-fault
 enum-known-fault c = search needs
@@ -16,7 +16,7 @@ enum-told : tie.Need-enum-told
 enum-told c = search needs
 
 distance-unchecked-requires : tie.Need-distance-unchecked-requires
-distance-unchecked-requires c κs = search needs
+distance-unchecked-requires c κs = tt
 
 returns-2 : tie.Need-returns-2
 returns-2 c = rw (← c .before .before .before .point .ensures, c .before .enum-told .given .1, c .distance-unchecked .ensures)

@@ -1,27 +1,26 @@
 -- `shape::ClipCoverage::distance_unchecked` meets its contract. Assumes nothing.
 use Rattle.shape.specs.Coverage.{distanceOf}
-use borrow.Author.Needs.{needs}
 use Rattle.shape.proofs.ClipCoverage.distance_unchecked.Statement.{statement}
 use Rattle.shape.proofs.ClipCoverage.distance_unchecked.Tie as tie
 
 abs-requires : tie.Need-abs-requires
-abs-requires c κs = search needs
+abs-requires c κs = tt
 
 abs-requires-2 : tie.Need-abs-requires-2
-abs-requires-2 c κs = search needs
+abs-requires-2 c κs = tt
 
 off-corner-requires : tie.Need-off-corner-requires
-off-corner-requires c κs = search needs
+off-corner-requires c κs = tt
 
 corner-distance-requires : tie.Need-corner-distance-requires
-corner-distance-requires c κs = search needs
+corner-distance-requires c κs = tt
 
 returns : tie.Need-returns
 unfolding distanceOf
 returns c = rw (← c .before .before .before .before .before .before .before .before .abs .ensures, ← c .before .before .before .before .before .before .abs2 .ensures, ← c .before .before .off-corner .ensures, c .before .if1 .taken) (c .corner-distance .ensures)
 
 max-requires : tie.Need-max-requires
-max-requires c κs = search needs
+max-requires c κs = tt
 
 returns-2 : tie.Need-returns-2
 unfolding distanceOf

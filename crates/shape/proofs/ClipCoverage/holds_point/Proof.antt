@@ -1,11 +1,10 @@
 -- `shape::ClipCoverage::holds_point` meets its contract. Assumes nothing.
 use Rattle.shape.specs.Coverage.{holdsPointOf}
-use borrow.Author.Needs.{needs}
 use Rattle.shape.proofs.ClipCoverage.holds_point.Statement.{statement}
 use Rattle.shape.proofs.ClipCoverage.holds_point.Tie as tie
 
 distance-unchecked-requires : tie.Need-distance-unchecked-requires
-distance-unchecked-requires c κs = search needs
+distance-unchecked-requires c κs = tt
 
 returns : tie.Need-returns
 unfolding holdsPointOf

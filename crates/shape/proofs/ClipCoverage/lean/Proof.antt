@@ -1,14 +1,13 @@
 -- `shape::ClipCoverage::lean` meets its contract. Assumes nothing.
 use Rattle.shape.specs.Coverage.{leanOf}
-use borrow.Author.Needs.{needs}
 use Rattle.shape.proofs.ClipCoverage.lean.Statement.{statement}
 use Rattle.shape.proofs.ClipCoverage.lean.Tie as tie
 
 signum-requires : tie.Need-signum-requires
-signum-requires c κs = search needs
+signum-requires c κs = tt
 
 signum-requires-2 : tie.Need-signum-requires-2
-signum-requires-2 c κs = search needs
+signum-requires-2 c κs = tt
 
 returns : tie.Need-returns
 unfolding leanOf

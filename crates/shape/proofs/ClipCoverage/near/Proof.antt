@@ -1,20 +1,19 @@
 -- `shape::ClipCoverage::near` meets its contract. Assumes nothing.
 use Rattle.shape.specs.Beside.{nearOf}
-use borrow.Author.Needs.{needs}
 use Rattle.shape.proofs.ClipCoverage.near.Statement.{statement}
 use Rattle.shape.proofs.ClipCoverage.near.Tie as tie
 
 distance-unchecked-requires : tie.Need-distance-unchecked-requires
-distance-unchecked-requires c κs = search needs
+distance-unchecked-requires c κs = tt
 
 distance-unchecked-requires-2 : tie.Need-distance-unchecked-requires-2
-distance-unchecked-requires-2 c κs = search needs
+distance-unchecked-requires-2 c κs = tt
 
 max-requires : tie.Need-max-requires
-max-requires c κs = search needs
+max-requires c κs = tt
 
 abs-requires : tie.Need-abs-requires
-abs-requires c κs = search needs
+abs-requires c κs = tt
 
 returns : tie.Need-returns
 unfolding nearOf

@@ -1,27 +1,26 @@
 -- `shape::RoundedBox::alongside` meets its contract. Assumes nothing.
 use Rattle.shape.specs.Beside.{alongsideOf}
-use borrow.Author.Needs.{needs}
 use Rattle.shape.proofs.RoundedBox.alongside.Statement.{statement}
 use Rattle.shape.proofs.RoundedBox.alongside.Tie as tie
 
 div-requires : tie.Need-div-requires
-div-requires c κs = search needs
+div-requires c κs = tt
 
 straight-requires : tie.Need-straight-requires
-straight-requires c κs = search needs
+straight-requires c κs = tt
 
 placed-straight-requires : tie.Need-placed-straight-requires
-placed-straight-requires c κs = search needs
+placed-straight-requires c κs = tt
 
 returns : tie.Need-returns
 unfolding alongsideOf
 returns c = rw (← c .before .before .before .div .ensures, ← c .before .before .straight .ensures, c .before .if1 .taken, c .placed-straight .ensures)
 
 crossed-requires : tie.Need-crossed-requires
-crossed-requires c κs = search needs
+crossed-requires c κs = tt
 
 placed-crossed-requires : tie.Need-placed-crossed-requires
-placed-crossed-requires c κs = search needs
+placed-crossed-requires c κs = tt
 
 returns-2 : tie.Need-returns-2
 unfolding alongsideOf

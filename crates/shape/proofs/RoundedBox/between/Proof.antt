@@ -1,14 +1,13 @@
 -- `shape::RoundedBox::between` meets its contract. Assumes nothing.
 use Rattle.shape.specs.Beside.{betweenOf}
-use borrow.Author.Needs.{needs}
 use Rattle.shape.proofs.RoundedBox.between.Statement.{statement}
 use Rattle.shape.proofs.RoundedBox.between.Tie as tie
 
 translation-requires : tie.Need-translation-requires
-translation-requires c κs = search needs
+translation-requires c κs = tt
 
 mul-requires : tie.Need-mul-requires
-mul-requires c κs = search needs
+mul-requires c κs = tt
 
 returns : tie.Need-returns
 unfolding betweenOf

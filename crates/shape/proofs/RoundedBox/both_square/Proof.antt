@@ -1,14 +1,13 @@
 -- `shape::RoundedBox::both_square` meets its contract. Assumes nothing.
 use Rattle.shape.specs.Beside.{bothSquareOf}
-use borrow.Author.Needs.{needs}
 use Rattle.shape.proofs.RoundedBox.both_square.Statement.{statement}
 use Rattle.shape.proofs.RoundedBox.both_square.Tie as tie
 
 square-requires : tie.Need-square-requires
-square-requires c κs = search needs
+square-requires c κs = tt
 
 square-requires-2 : tie.Need-square-requires-2
-square-requires-2 c κs = search needs
+square-requires-2 c κs = tt
 
 returns : tie.Need-returns
 unfolding bothSquareOf

@@ -1,14 +1,13 @@
 -- `shape::RoundedBox::check` meets its contract. Assumes nothing.
 use Rattle.shape.specs.Checks.{boxCheckOf}
-use borrow.Author.Needs.{needs}
 use Rattle.shape.proofs.RoundedBox.check.Statement.{statement}
 use Rattle.shape.proofs.RoundedBox.check.Tie as tie
 
 in-range-requires : tie.Need-in-range-requires
-in-range-requires c κs = search needs
+in-range-requires c κs = tt
 
 improper-requires : tie.Need-improper-requires
-improper-requires c κs = search needs
+improper-requires c κs = tt
 
 returns : tie.Need-returns
 unfolding boxCheckOf

@@ -4,13 +4,13 @@ use Rattle.shape.proofs.RoundedBox.coverage.Statement.{statement}
 use Rattle.shape.proofs.RoundedBox.coverage.Tie as tie
 
 check-requires : tie.Need-check-requires
-check-requires c κs = search needs
+check-requires c κs = tt
 
 fringe-requires : tie.Need-fringe-requires
-fringe-requires c κs = search needs
+fringe-requires c κs = tt
 
 and-then-requires : tie.Need-and-then-requires
-and-then-requires c κs = search needs
+and-then-requires c κs = tt
 
 enum-known-fault : tie.Need-enum-known-fault
 enum-known-fault c = search needs
@@ -22,10 +22,10 @@ enum-told : tie.Need-enum-told
 enum-told c = search needs
 
 coverage-unchecked-requires : tie.Need-coverage-unchecked-requires
-coverage-unchecked-requires c κs = search needs
+coverage-unchecked-requires c κs = tt
 
 answer-requires : tie.Need-answer-requires
-answer-requires c κs = search needs
+answer-requires c κs = tt
 
 returns-2 : tie.Need-returns-2
 returns-2 c =

@@ -1,27 +1,26 @@
 -- `shape::RoundedBox::coverage_unchecked` meets its contract. Assumes nothing.
 use Rattle.shape.specs.Coverage.{coverageOf}
-use borrow.Author.Needs.{needs}
 use Rattle.shape.proofs.RoundedBox.coverage_unchecked.Statement.{statement}
 use Rattle.shape.proofs.RoundedBox.coverage_unchecked.Tie as tie
 
 uncovered-requires : tie.Need-uncovered-requires
-uncovered-requires c κs = search needs
+uncovered-requires c κs = tt
 
 returns : tie.Need-returns
 unfolding coverageOf
 returns c = rw (← c .before .uncovered .ensures, c .if1 .taken)
 
 inverse-requires : tie.Need-inverse-requires
-inverse-requires c κs = search needs
+inverse-requires c κs = tt
 
 hypot-requires : tie.Need-hypot-requires
-hypot-requires c κs = search needs
+hypot-requires c κs = tt
 
 hypot-requires-2 : tie.Need-hypot-requires-2
-hypot-requires-2 c κs = search needs
+hypot-requires-2 c κs = tt
 
 thin-requires : tie.Need-thin-requires
-thin-requires c κs = search needs
+thin-requires c κs = tt
 
 returns-2 : tie.Need-returns-2
 unfolding coverageOf
@@ -35,7 +34,7 @@ returns-2 c =
     rw (← at-uncovered .uncovered .ensures, at-if1 .if1 .left, ← at-inverse .inverse .ensures, ← at-hypot .hypot .ensures, ← at-hypot2 .hypot2 .ensures, ← at-thin .thin .ensures, c .if2 .taken)
 
 kept-radii-requires : tie.Need-kept-radii-requires
-kept-radii-requires c κs = search needs
+kept-radii-requires c κs = tt
 
 returns-3 : tie.Need-returns-3
 unfolding coverageOf

@@ -1,17 +1,16 @@
 -- `shape::RoundedBox::covered_by` meets its contract. Assumes nothing.
 use Rattle.shape.specs.Beside.{coveredOf}
-use borrow.Author.Needs.{needs}
 use Rattle.shape.proofs.RoundedBox.covered_by.Statement.{statement}
 use Rattle.shape.proofs.RoundedBox.covered_by.Tie as tie
 
 square-requires : tie.Need-square-requires
-square-requires c κs = search needs
+square-requires c κs = tt
 
 own-sides-requires : tie.Need-own-sides-requires
-own-sides-requires c κs = search needs
+own-sides-requires c κs = tt
 
 are-requires : tie.Need-are-requires
-are-requires c κs = search needs
+are-requires c κs = tt
 
 returns : tie.Need-returns
 unfolding coveredOf

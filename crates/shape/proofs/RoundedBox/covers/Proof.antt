@@ -1,17 +1,16 @@
 -- `shape::RoundedBox::covers` meets its contract. Assumes nothing.
 use Rattle.shape.specs.Beside.{coversOf}
-use borrow.Author.Needs.{needs}
 use Rattle.shape.proofs.RoundedBox.covers.Statement.{statement}
 use Rattle.shape.proofs.RoundedBox.covers.Tie as tie
 
 square-requires : tie.Need-square-requires
-square-requires c κs = search needs
+square-requires c κs = tt
 
 sides-requires : tie.Need-sides-requires
-sides-requires c κs = search needs
+sides-requires c κs = tt
 
 are-requires : tie.Need-are-requires
-are-requires c κs = search needs
+are-requires c κs = tt
 
 returns : tie.Need-returns
 unfolding coversOf

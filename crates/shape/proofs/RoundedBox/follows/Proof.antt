@@ -1,6 +1,5 @@
 -- `shape::RoundedBox::follows` meets its contract: every point passed so far is near. Assumes nothing.
 use Prim.Native.Nat.{ℕ, _≤_, _-_}
-use borrow.Author.Needs.{needs}
 use Rattle.shape.proofs.All.{none-yet, one-more, one-out}
 use Rattle.shape.specs.Coverage.{outlinePointOf, allBelow}
 use Rattle.shape.specs.Beside.{nearOf}
@@ -30,7 +29,7 @@ outline-point-requires : tie.Need-outline-point-requires Inv-loop μ-loop
 outline-point-requires c κs = c .loop-test .taken
 
 near-requires : tie.Need-near-requires Inv-loop μ-loop
-near-requires c κs = search needs
+near-requires c κs = tt
 
 add-i : tie.Need-add-i Inv-loop μ-loop
 add-i c = let l = c .before .before .before .loop-test .taken in omega arith

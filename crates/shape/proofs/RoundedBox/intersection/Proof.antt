@@ -4,19 +4,19 @@ use Rattle.shape.proofs.RoundedBox.intersection.Statement.{statement}
 use Rattle.shape.proofs.RoundedBox.intersection.Tie as tie
 
 check-requires : tie.Need-check-requires
-check-requires c κs = search needs
+check-requires c κs = tt
 
 check-requires-2 : tie.Need-check-requires-2
-check-requires-2 c κs = search needs
+check-requires-2 c κs = tt
 
 and-then-requires : tie.Need-and-then-requires
-and-then-requires c κs = search needs
+and-then-requires c κs = tt
 
 fringe-requires : tie.Need-fringe-requires
-fringe-requires c κs = search needs
+fringe-requires c κs = tt
 
 and-then-requires-2 : tie.Need-and-then-requires-2
-and-then-requires-2 c κs = search needs
+and-then-requires-2 c κs = tt
 
 enum-known-fault : tie.Need-enum-known-fault
 enum-known-fault c = search needs
@@ -35,10 +35,10 @@ enum-told : tie.Need-enum-told
 enum-told c = search needs
 
 intersection-within-unchecked-requires : tie.Need-intersection-within-unchecked-requires
-intersection-within-unchecked-requires c κs = search needs
+intersection-within-unchecked-requires c κs = tt
 
 answer-requires : tie.Need-answer-requires
-answer-requires c κs = search needs
+answer-requires c κs = tt
 
 returns-2 : tie.Need-returns-2
 returns-2 c =

@@ -5,7 +5,7 @@ use Rattle.shape.proofs.RoundedBox.intersection_within_unchecked.Statem
 use Rattle.shape.proofs.RoundedBox.intersection_within_unchecked.Tie as tie
 
 alongside-requires : tie.Need-alongside-requires
-alongside-requires c κs = search needs
+alongside-requires c κs = tt
 
 enum-known-p : tie.Need-enum-known-p
 enum-known-p c = search needs
@@ -18,17 +18,17 @@ unfolding intersectionWithinOf
 returns c = rw (← c .before .before .alongside .ensures, c .enum-told .given .1)
 
 sides-requires : tie.Need-sides-requires
-sides-requires c κs = search needs
+sides-requires c κs = tt
 
 apart-requires : tie.Need-apart-requires
-apart-requires c κs = search needs
+apart-requires c κs = tt
 
 returns-2 : tie.Need-returns-2
 unfolding intersectionWithinOf
 returns-2 c = rw (← c .before .before .before .before .before .before .alongside .ensures, c .before .before .before .before .p .given .1, ← c .before .before .sides .ensures, ← c .before .apart .ensures, c .if1 .taken)
 
 overlap-requires : tie.Need-overlap-requires
-overlap-requires c κs = search needs
+overlap-requires c κs = tt
 
 returns-3 : tie.Need-returns-3
 unfolding intersectionWithinOf

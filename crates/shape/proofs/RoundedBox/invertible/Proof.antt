@@ -1,11 +1,10 @@
 -- `shape::RoundedBox::invertible` meets its contract. Assumes nothing.
 use Rattle.shape.specs.Coverage.{invertibleOf}
-use borrow.Author.Needs.{needs}
 use Rattle.shape.proofs.RoundedBox.invertible.Statement.{statement}
 use Rattle.shape.proofs.RoundedBox.invertible.Tie as tie
 
 is-finite-requires : tie.Need-is-finite-requires
-is-finite-requires c κs = search needs
+is-finite-requires c κs = tt
 
 returns : tie.Need-returns
 unfolding invertibleOf

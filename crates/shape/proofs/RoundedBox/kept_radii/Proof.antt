@@ -1,11 +1,10 @@
 -- `shape::RoundedBox::kept_radii` meets its contract. Assumes nothing.
 use Rattle.shape.specs.Coverage.{keptRadiiOf}
-use borrow.Author.Needs.{needs}
 use Rattle.shape.proofs.RoundedBox.kept_radii.Statement.{statement}
 use Rattle.shape.proofs.RoundedBox.kept_radii.Tie as tie
 
 tight-requires : tie.Need-tight-requires
-tight-requires c κs = search needs
+tight-requires c κs = tt
 
 returns : tie.Need-returns
 unfolding keptRadiiOf

@@ -29,7 +29,7 @@ array-read-sy : tie.Need-array-read-sy
 array-read-sy c = search needs
 
 transform-point-requires : tie.Need-transform-point-requires
-transform-point-requires c κs = search needs
+transform-point-requires c κs = tt
 
 returns : tie.Need-returns
 unfolding outlinePointOf

@@ -4,7 +4,7 @@ use Rattle.shape.proofs.RoundedBox.parallel_unchecked.Statement.{statem
 use Rattle.shape.proofs.RoundedBox.parallel_unchecked.Tie as tie
 
 alongside-requires : tie.Need-alongside-requires
-alongside-requires c κs = search needs
+alongside-requires c κs = tt
 
 enum-told : tie.Need-enum-told
 enum-told c = search needs

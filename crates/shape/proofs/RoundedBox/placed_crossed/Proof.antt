@@ -1,14 +1,13 @@
 -- `shape::RoundedBox::placed_crossed` meets its contract. Assumes nothing.
 use Rattle.shape.specs.Beside.{crossedBy}
-use borrow.Author.Needs.{needs}
 use Rattle.shape.proofs.RoundedBox.placed_crossed.Statement.{statement}
 use Rattle.shape.proofs.RoundedBox.placed_crossed.Tie as tie
 
 abs-requires : tie.Need-abs-requires
-abs-requires c κs = search needs
+abs-requires c κs = tt
 
 abs-requires-2 : tie.Need-abs-requires-2
-abs-requires-2 c κs = search needs
+abs-requires-2 c κs = tt
 
 returns : tie.Need-returns
 unfolding crossedBy

@@ -5,10 +5,10 @@ use Rattle.shape.proofs.RoundedBox.rect_intersection_unchecked.Statemen
 use Rattle.shape.proofs.RoundedBox.rect_intersection_unchecked.Tie as tie
 
 both-square-requires : tie.Need-both-square-requires
-both-square-requires c κs = search needs
+both-square-requires c κs = tt
 
 alongside-requires : tie.Need-alongside-requires
-alongside-requires c κs = search needs
+alongside-requires c κs = tt
 
 enum-known-p : tie.Need-enum-known-p
 enum-known-p c = search needs
@@ -21,13 +21,13 @@ unfolding rectIntersectionOf
 returns c = rw (← c .before .before .before .before .both-square .ensures, c .before .before .before .if1 .taken, ← c .before .before .alongside .ensures, c .enum-told .given .1)
 
 sides-requires : tie.Need-sides-requires
-sides-requires c κs = search needs
+sides-requires c κs = tt
 
 raised-requires : tie.Need-raised-requires
-raised-requires c κs = search needs
+raised-requires c κs = tt
 
 between-requires : tie.Need-between-requires
-between-requires c κs = search needs
+between-requires c κs = tt
 
 returns-2 : tie.Need-returns-2
 unfolding rectIntersectionOf

@@ -5,7 +5,7 @@ use Rattle.shape.proofs.RoundedBox.round_overlap.Statement.{statement}
 use Rattle.shape.proofs.RoundedBox.round_overlap.Tie as tie
 
 coverage-unchecked-requires : tie.Need-coverage-unchecked-requires
-coverage-unchecked-requires c κs = search needs
+coverage-unchecked-requires c κs = tt
 
 enum-known-mine : tie.Need-enum-known-mine
 enum-known-mine c = search needs
@@ -18,7 +18,7 @@ unfolding roundOverlapOf
 returns c = rw (← c .before .before .coverage-unchecked .ensures, c .enum-told .given .1)
 
 coverage-unchecked-requires-2 : tie.Need-coverage-unchecked-requires-2
-coverage-unchecked-requires-2 c κs = search needs
+coverage-unchecked-requires-2 c κs = tt
 
 enum-known-theirs : tie.Need-enum-known-theirs
 enum-known-theirs c = search needs
@@ -31,7 +31,7 @@ unfolding roundOverlapOf
 returns-2 c = rw (← c .before .before .before .before .before .before .coverage-unchecked .ensures, c .before .before .before .before .mine .given .1, ← c .before .before .coverage-unchecked2 .ensures, c .enum-told2 .given .1)
 
 follows-requires : tie.Need-follows-requires
-follows-requires c κs = search needs
+follows-requires c κs = tt
 
 returns-3 : tie.Need-returns-3
 unfolding roundOverlapOf
@@ -44,7 +44,7 @@ returns-3 c =
     rw (← at-coverage-unchecked .coverage-unchecked .ensures, at-mine .mine .given .1, ← at-coverage-unchecked2 .coverage-unchecked2 .ensures, at-theirs .theirs .given .1, ← at-follows .follows .ensures, c .if1 .taken)
 
 follows-requires-2 : tie.Need-follows-requires-2
-follows-requires-2 c κs = search needs
+follows-requires-2 c κs = tt
 
 returns-4 : tie.Need-returns-4
 unfolding roundOverlapOf

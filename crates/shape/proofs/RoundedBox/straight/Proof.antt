@@ -1,17 +1,16 @@
 -- `shape::RoundedBox::straight` meets its contract. Assumes nothing.
 use Rattle.shape.specs.Beside.{straightOf}
-use borrow.Author.Needs.{needs}
 use Rattle.shape.proofs.RoundedBox.straight.Statement.{statement}
 use Rattle.shape.proofs.RoundedBox.straight.Tie as tie
 
 scale-requires : tie.Need-scale-requires
-scale-requires c κs = search needs
+scale-requires c κs = tt
 
 aligned-requires : tie.Need-aligned-requires
-aligned-requires c κs = search needs
+aligned-requires c κs = tt
 
 aligned-requires-2 : tie.Need-aligned-requires-2
-aligned-requires-2 c κs = search needs
+aligned-requires-2 c κs = tt
 
 returns : tie.Need-returns
 unfolding straightOf

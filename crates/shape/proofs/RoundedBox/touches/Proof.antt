@@ -4,19 +4,19 @@ use Rattle.shape.proofs.RoundedBox.touches.Statement.{statement}
 use Rattle.shape.proofs.RoundedBox.touches.Tie as tie
 
 check-requires : tie.Need-check-requires
-check-requires c κs = search needs
+check-requires c κs = tt
 
 fringe-requires : tie.Need-fringe-requires
-fringe-requires c κs = search needs
+fringe-requires c κs = tt
 
 and-then-requires : tie.Need-and-then-requires
-and-then-requires c κs = search needs
+and-then-requires c κs = tt
 
 point-requires : tie.Need-point-requires
-point-requires c κs = search needs
+point-requires c κs = tt
 
 and-then-requires-2 : tie.Need-and-then-requires-2
-and-then-requires-2 c κs = search needs
+and-then-requires-2 c κs = tt
 
 enum-known-fault : tie.Need-enum-known-fault
 enum-known-fault c = search needs
@@ -35,7 +35,7 @@ enum-told : tie.Need-enum-told
 enum-told c = search needs
 
 touches-unchecked-requires : tie.Need-touches-unchecked-requires
-touches-unchecked-requires c κs = search needs
+touches-unchecked-requires c κs = tt
 
 returns-2 : tie.Need-returns-2
 returns-2 c =

@@ -5,7 +5,7 @@ use Rattle.shape.proofs.RoundedBox.touches_unchecked.Statement.{stateme
 use Rattle.shape.proofs.RoundedBox.touches_unchecked.Tie as tie
 
 coverage-unchecked-requires : tie.Need-coverage-unchecked-requires
-coverage-unchecked-requires c κs = search needs
+coverage-unchecked-requires c κs = tt
 
 enum-known-k : tie.Need-enum-known-k
 enum-known-k c = search needs
@@ -18,7 +18,7 @@ unfolding touchesOf
 returns c = rw (← c .before .before .coverage-unchecked .ensures, c .enum-told .given .1)
 
 distance-unchecked-requires : tie.Need-distance-unchecked-requires
-distance-unchecked-requires c κs = search needs
+distance-unchecked-requires c κs = tt
 
 returns-2 : tie.Need-returns-2
 unfolding touchesOf

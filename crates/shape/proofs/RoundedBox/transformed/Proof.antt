@@ -4,13 +4,13 @@ use Rattle.shape.proofs.RoundedBox.transformed.Statement.{statement}
 use Rattle.shape.proofs.RoundedBox.transformed.Tie as tie
 
 check-requires : tie.Need-check-requires
-check-requires c κs = search needs
+check-requires c κs = tt
 
 frame-requires : tie.Need-frame-requires
-frame-requires c κs = search needs
+frame-requires c κs = tt
 
 and-then-requires : tie.Need-and-then-requires
-and-then-requires c κs = search needs
+and-then-requires c κs = tt
 
 enum-known-fault : tie.Need-enum-known-fault
 enum-known-fault c = search needs
@@ -22,7 +22,7 @@ enum-told : tie.Need-enum-told
 enum-told c = search needs
 
 mul-requires : tie.Need-mul-requires
-mul-requires c κs = search needs
+mul-requires c κs = tt
 
 returns-2 : tie.Need-returns-2
 returns-2 c = rw (← c .before .before .before .before .before .before .check .ensures, ← c .before .before .before .before .before .frame .ensures, ← c .before .before .before .before .and-then .ensures, c .before .before .enum-told .given .1, c .mul .ensures)

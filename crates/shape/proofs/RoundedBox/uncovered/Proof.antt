@@ -1,11 +1,10 @@
 -- `shape::RoundedBox::uncovered` meets its contract. Assumes nothing.
 use Rattle.shape.specs.Coverage.{uncoveredOf}
-use borrow.Author.Needs.{needs}
 use Rattle.shape.proofs.RoundedBox.uncovered.Statement.{statement}
 use Rattle.shape.proofs.RoundedBox.uncovered.Tie as tie
 
 invertible-requires : tie.Need-invertible-requires
-invertible-requires c κs = search needs
+invertible-requires c κs = tt
 
 returns : tie.Need-returns
 unfolding uncoveredOf

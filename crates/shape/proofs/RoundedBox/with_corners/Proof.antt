@@ -1,14 +1,13 @@
 -- `shape::RoundedBox::with_corners` meets its contract. Assumes nothing.
 use Rattle.shape.specs.Beside.{withCornersOf}
-use borrow.Author.Needs.{needs}
 use Rattle.shape.proofs.RoundedBox.with_corners.Statement.{statement}
 use Rattle.shape.proofs.RoundedBox.with_corners.Tie as tie
 
 min-requires : tie.Need-min-requires
-min-requires c κs = search needs
+min-requires c κs = tt
 
 min-requires-2 : tie.Need-min-requires-2
-min-requires-2 c κs = search needs
+min-requires-2 c κs = tt
 
 returns : tie.Need-returns
 unfolding withCornersOf

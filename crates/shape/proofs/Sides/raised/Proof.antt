@@ -1,14 +1,13 @@
 -- `shape::Sides::raised` meets its contract. Assumes nothing.
 use Rattle.shape.specs.Beside.{raisedOf}
-use borrow.Author.Needs.{needs}
 use Rattle.shape.proofs.Sides.raised.Statement.{statement}
 use Rattle.shape.proofs.Sides.raised.Tie as tie
 
 max-requires : tie.Need-max-requires
-max-requires c κs = search needs
+max-requires c κs = tt
 
 max-requires-2 : tie.Need-max-requires-2
-max-requires-2 c κs = search needs
+max-requires-2 c κs = tt
 
 returns : tie.Need-returns
 unfolding raisedOf
