@@ -1,0 +1,12 @@
+-- `fit::Walk::close` meets its contract. Assumes nothing.
+use mathlib.Core.Path.{refl}
+use Rattle.fit.specs.Contour.{walkClosedOf}
+use Rattle.fit.proofs.Walk.close.Statement.{statement}
+use Rattle.fit.proofs.Walk.close.Tie as tie
+
+returns : tie.Need-returns
+unfolding walkClosedOf
+returns c = refl
+
+pub close-spec : {M : Type 1} → statement M
+close-spec = tie.close (tie.spec returns)

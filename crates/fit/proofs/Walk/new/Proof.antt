@@ -1,0 +1,12 @@
+-- `fit::Walk::new` meets its contract. Assumes nothing.
+use mathlib.Core.Path.{refl}
+use Rattle.fit.specs.Contour.{walkOf}
+use Rattle.fit.proofs.Walk.new.Statement.{statement}
+use Rattle.fit.proofs.Walk.new.Tie as tie
+
+returns : tie.Need-returns
+unfolding walkOf
+returns c = refl
+
+pub new-spec : {M : Type 1} → statement M
+new-spec = tie.close (tie.spec returns)

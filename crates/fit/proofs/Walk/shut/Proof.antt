@@ -1,0 +1,15 @@
+-- `fit::Walk::shut` meets its contract. Assumes nothing.
+use Rattle.fit.specs.Contour.{shutOf}
+use Rattle.fit.proofs.Walk.shut.Statement.{statement}
+use Rattle.fit.proofs.Walk.shut.Tie as tie
+
+returns : tie.Need-returns
+unfolding shutOf
+returns c = rw (c .if1 .taken)
+
+returns-2 : tie.Need-returns-2
+unfolding shutOf
+returns-2 c = rw (c .if1 .left)
+
+pub shut-spec : {M : Type 1} → statement M
+shut-spec = tie.close (tie.spec returns returns-2)

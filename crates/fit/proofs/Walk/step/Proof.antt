@@ -1,0 +1,75 @@
+-- `fit::Walk::step` meets its contract. Assumes nothing.
+use Rattle.fit.specs.Contour.{walkOf, walkClosedOf}
+use borrow.Author.Needs.{needs}
+use Rattle.fit.proofs.Walk.step.Statement.{statement}
+use Rattle.fit.proofs.Walk.step.Tie as tie
+
+enum-known-verb : tie.Need-enum-known-verb
+enum-known-verb c = search needs
+
+move-to-requires : tie.Need-move-to-requires
+move-to-requires c κs = tt
+
+enum-known-verb-2 : tie.Need-enum-known-verb-2
+enum-known-verb-2 c = search needs
+
+draw-requires : tie.Need-draw-requires
+draw-requires c κs = c .before .before .before .pre
+
+enum-known-verb-3 : tie.Need-enum-known-verb-3
+enum-known-verb-3 c = search needs
+
+draw-requires-2 : tie.Need-draw-requires-2
+draw-requires-2 c κs = c .before .before .before .pre
+
+enum-told : tie.Need-enum-told
+enum-told c = search needs
+
+enum-told-2 : tie.Need-enum-told-2
+enum-told-2 c = search needs
+
+enum-told-3 : tie.Need-enum-told-3
+enum-told-3 c = search needs
+
+close-requires : tie.Need-close-requires
+close-requires c κs = tt
+
+returns : tie.Need-returns
+returns c = λ k e. rw (c .before .before .verb .given .1) (c .move-to .ensures k e)
+
+returns-2 : tie.Need-returns-2
+returns-2 c = λ k e. rw (c .before .before .verb2 .given .1) (c .draw .ensures k e)
+
+returns-3 : tie.Need-returns-3
+returns-3 c = λ k e. rw (c .before .before .verb3 .given .1) (c .draw2 .ensures k e)
+
+returns-4 : tie.Need-returns-4
+returns-4 c = λ k e. rw (c .enum-told .given .1, e)
+
+returns-5 : tie.Need-returns-5
+returns-5 c = λ k e. rw (c .enum-told2 .given .1, e)
+
+returns-6 : tie.Need-returns-6
+unfolding walkOf walkClosedOf
+returns-6 c = λ k e. rw (c .before .enum-told3 .given .1, c .close .ensures, e)
+
+pub step-spec : {M : Type 1} → statement M
+step-spec =
+    tie.close
+    (tie.spec
+    enum-known-verb
+    move-to-requires
+    enum-known-verb-2
+    draw-requires
+    enum-known-verb-3
+    draw-requires-2
+    enum-told
+    enum-told-2
+    enum-told-3
+    close-requires
+    returns
+    returns-2
+    returns-3
+    returns-4
+    returns-5
+    returns-6)

@@ -1,0 +1,165 @@
+-- shape.rs's `parallelogram` and `fit`, for straight outlines. `⊕ ⊖ ⊗ ⊘` are binary32's operations, and each rounds once. Definitions only.
+use mathlib.Core.Path.{_≡_}
+use mathlib.Core.Bool.{Bool, true, false, cond, _&&_}
+use mathlib.Core.List.{List, [], _∷_, _++_}
+use Prim.Native.Nat.{ℕ, zero, suc, _+_, _-_, _%_, _≤_}
+use lib.ListN.{length, getD, take}
+use lib.Ieee.{Float, nan, binary32, ofBits, lt, le}
+use Rattle.float.specs.Ops.{_⊕_, _⊖_, _⊗_, _⊘_, f0, f½}
+use Rattle.float.specs.Simple.{absOf, maxOf}
+use Rattle.float.specs.Root.{hypotOf}
+use Rattle.geometry.specs.declared.Position.{Position}
+use Rattle.shape.specs.declared.RoundedBox.{RoundedBox}
+use Rattle.shape.specs.declared.MaybeBox.{MaybeBox}
+use Rattle.shape.specs.declared.MaybeBox.the-variants as maybe
+use Rattle.shape.specs.declared.BoxAnswer.{BoxAnswer}
+use Rattle.shape.specs.Calls.{boxUnless}
+use Rattle.fit.specs.declared.Segment.{Segment}
+use Rattle.fit.specs.declared.Segment.the-variants as segment
+use Rattle.fit.specs.declared.Step.{Step}
+use Rattle.fit.specs.declared.Step.the-variants as step
+use Rattle.fit.specs.declared.Corners.{Corners}
+use Rattle.fit.specs.Outline.{outlineCheckOf}
+use Rattle.fit.specs.Contour.{Contour, Walked, stopped, reached, origin, newContour, contourFrom, emptyOf, samePlaceOf, linePointsOf, allLinesOf, walkOf}
+
+-- CORNER_TOLERANCE, 1e-4
+abbrev pub cornerTolerance : Float
+cornerTolerance = ofBits binary32 0x38d1_b717
+
+-- ---- the size: a fold of the larger from 0
+
+-- `(p[0] - start[0]).abs().max((p[1] - start[1]).abs())`
+unfoldable pub reachOf : Position → Position → Float
+reachOf start p = maxOf (absOf (p .x ⊖ start .x)) (absOf (p .y ⊖ start .y))
+
+-- the size of the first i points
+unfoldable pub sizeBelow : Position → List Position → ℕ → Float
+sizeBelow start points zero = f0
+sizeBelow start points (suc i) = maxOf (sizeBelow start points i) (reachOf start (getD points i origin))
+
+abbrev pub sizeOf : Position → List Position → Float
+sizeOf start points = sizeBelow start points (length points)
+
+-- ---- the corners: where the outline turns
+
+-- `cross`
+unfoldable pub crossOf : Position → Position → Position → Float
+crossOf a b c = (b .x ⊖ a .x) ⊗ (c .y ⊖ b .y) ⊖ (b .y ⊖ a .y) ⊗ (c .x ⊖ b .x)
+
+-- `cross.abs() > CORNER_TOLERANCE * size * size`
+unfoldable pub turnsOf : Position → Position → Position → Float → Bool
+turnsOf a b c size = lt (cornerTolerance ⊗ size ⊗ size) (absOf (crossOf a b c))
+
+-- whether the outline of n points turns at point i
+unfoldable pub turnsAtOf : List Position → ℕ → Float → ℕ → Bool
+turnsAtOf points n size i = turnsOf (getD points ((i + n - 1) % n) origin) (getD points i origin) (getD points ((i + 1) % n) origin) size
+
+-- the turning points among the first i, in order
+unfoldable pub cornersBelow : List Position → ℕ → Float → ℕ → List Position
+cornersBelow points n size zero = []
+cornersBelow points n size (suc i) = cornersBelow points n size i ++ cond (turnsAtOf points n size i) (getD points i origin ∷ []) []
+
+abbrev pub cornersOf : List Position → Float → List Position
+cornersOf points size = cornersBelow points (length points) size (length points)
+
+-- ---- the box of four corners
+
+-- `close`
+unfoldable pub closeOf : Float → Float → Float → Bool
+closeOf a b size = le (absOf (a ⊖ b)) (cornerTolerance ⊗ size)
+
+-- the diagonals have one middle
+unfoldable pub centredOf : Corners → Float → Bool
+centredOf k size =
+    closeOf (k .p0 .x ⊕ k .p2 .x) (k .p1 .x ⊕ k .p3 .x) size && closeOf (k .p0 .y ⊕ k .p2 .y) (k .p1 .y ⊕ k .p3 .y) size
+
+-- `u` and `v`: half a side
+abbrev pub halfSideOf : Position → Position → Position
+halfSideOf p q = record { x = (q .x ⊖ p .x) ⊗ f½; y = (q .y ⊖ p .y) ⊗ f½ }
+
+-- the box with the half sides u and v and the corners p0 and p2 opposite each other
+unfoldable pub spannedOf : Position → Position → Position → Position → RoundedBox
+spannedOf u v p0 p2 =
+    let ex = hypotOf (u .x) (u .y) in
+    let ey = hypotOf (v .x) (v .y) in
+    record {
+      frame =
+          record { a = u .x ⊘ ex; b = u .y ⊘ ex; c = v .x ⊘ ey; d = v .y ⊘ ey; x = (p0 .x ⊕ p2 .x) ⊗ f½; y = (p0 .y ⊕ p2 .y) ⊗ f½ };
+      ex = ex;
+      ey = ey;
+      rx = f0;
+      ry = f0;
+    }
+
+unfoldable pub cornersBoxOf : Corners → Float → MaybeBox
+cornersBoxOf k size =
+    cond (centredOf k size) (maybe.Box (spannedOf (halfSideOf (k .p0) (k .p1)) (halfSideOf (k .p0) (k .p3)) (k .p0) (k .p2))) maybe.NoBox
+
+-- exactly four turning points
+abbrev pub fourOf : List Position → Float → MaybeBox
+fourOf [] size = maybe.NoBox
+fourOf (p0 ∷ []) size = maybe.NoBox
+fourOf (p0 ∷ p1 ∷ []) size = maybe.NoBox
+fourOf (p0 ∷ p1 ∷ p2 ∷ []) size = maybe.NoBox
+fourOf (p0 ∷ p1 ∷ p2 ∷ p3 ∷ []) size = cornersBoxOf (record { p0 = p0; p1 = p1; p2 = p2; p3 = p3 }) size
+fourOf (p0 ∷ p1 ∷ p2 ∷ p3 ∷ p4 ∷ ps) size = maybe.NoBox
+
+-- RoundedBox::parallelogram, of its points
+unfoldable pub parallelogramOf : Position → List Position → MaybeBox
+parallelogramOf start points = fourOf (cornersOf points (sizeOf start points)) (sizeOf start points)
+
+-- ---- RoundedBox::fit
+
+-- `contour`'s end: back at the start, or a last line to it
+abbrev pub closedOf : Contour → List Segment
+closedOf k = cond (samePlaceOf (k .last) (k .start)) (k .segments) (k .segments ++ (segment.Line (k .start .x) (k .start .y) ∷ []))
+
+-- the points of `parallelogram`: the start, and the ends of all segments but the last
+abbrev pub pointsOf : Position → List Segment → List Position
+pointsOf start segments = start ∷ linePointsOf (take (length segments - 1) segments)
+
+-- `fit_with_cut`, whose `rounded` is left out: where there is a curve, no box
+abbrev pub segmentsBoxOf : Position → List Segment → MaybeBox
+segmentsBoxOf start segments = cond (allLinesOf segments) (parallelogramOf start (pointsOf start segments)) maybe.NoBox
+
+-- no start, or no segment: no contour, and no box
+unfoldable pub contourBoxOf : Contour → MaybeBox
+contourBoxOf k = cond (k .started) (cond (emptyOf (closedOf k)) maybe.NoBox (segmentsBoxOf (k .start) (closedOf k))) maybe.NoBox
+
+abbrev pub walkedBoxOf : Walked → MaybeBox
+walkedBoxOf stopped = maybe.NoBox
+walkedBoxOf (reached k) = contourBoxOf k
+
+abbrev pub contourOf : List ℕ → List Float → Walked
+contourOf verbs positions = contourFrom (reached newContour) verbs positions 0
+
+unfoldable pub fitOf : List ℕ → List Float → MaybeBox
+fitOf verbs positions = walkedBoxOf (contourOf verbs positions)
+
+-- the public call
+abbrev pub fitCall : List ℕ → List Float → BoxAnswer
+fitCall verbs positions = boxUnless (outlineCheckOf verbs positions) (fitOf verbs positions)
+
+-- ---- what the code keeps of a list of points
+
+-- the first n points, their numbers in two lists
+unfoldable pub pointsIn : List Float → List Float → ℕ → List Position
+pointsIn xs ys zero = []
+pointsIn xs ys (suc n) = pointsIn xs ys n ++ (record { x = getD xs n nan; y = getD ys n nan } ∷ [])
+
+-- where a walk ended, with the start and the ends of its segments in two lists as long as all are lines
+abbrev pub Ended : Walked → Step → List Float → List Float → Type 0
+Ended stopped r xs ys = r ≡ step.Stop
+Ended (reached k) r xs ys =
+    (r ≡ step.Go (walkOf k))
+    × (length (k .segments) ≤ 256)
+    × (allLinesOf (k .segments) ≡ true → pointsIn xs ys (length (k .segments) + 1) ≡ k .start ∷ linePointsOf (k .segments))
+
+-- the corners of an outline in two lists, m of them
+pub record Turned (points : List Position) (size : Float) (m : ℕ) (cx cy : List Float) : Type 0 where
+  pub corners : pointsIn cx cy m ≡ cornersOf points size
+
+-- 1 for a test that passes
+abbrev pub countOf : Bool → ℕ
+countOf true = 1
+countOf false = 0

@@ -1,0 +1,21 @@
+-- `shape::Check::both_in_range` meets its contract. Assumes nothing.
+use Rattle.shape.specs.Checks.{bothInRangeOf}
+use Rattle.shape.proofs.Check.both_in_range.Statement.{statement}
+use Rattle.shape.proofs.Check.both_in_range.Tie as tie
+
+in-range-requires : tie.Need-in-range-requires
+in-range-requires c κs = tt
+
+in-range-requires-2 : tie.Need-in-range-requires-2
+in-range-requires-2 c κs = tt
+
+returns : tie.Need-returns
+unfolding bothInRangeOf
+returns c = rw (← c .before .before .in-range .ensures, c .before .if1 .taken) (c .in-range2 .ensures)
+
+returns-2 : tie.Need-returns-2
+unfolding bothInRangeOf
+returns-2 c = rw (← c .before .in-range .ensures, c .if1 .left)
+
+pub both-in-range-spec : {M : Type 1} → statement M
+both-in-range-spec = tie.close (tie.spec in-range-requires in-range-requires-2 returns returns-2)

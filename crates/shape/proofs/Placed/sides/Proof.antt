@@ -1,0 +1,12 @@
+-- `shape::Placed::sides` meets its contract. Assumes nothing.
+use Rattle.shape.specs.Beside.{placedSidesOf}
+use mathlib.Core.Path.{refl}
+use Rattle.shape.proofs.Placed.sides.Statement.{statement}
+use Rattle.shape.proofs.Placed.sides.Tie as tie
+
+returns : tie.Need-returns
+unfolding placedSidesOf
+returns c = refl
+
+pub sides-spec : {M : Type 1} → statement M
+sides-spec = tie.close (tie.spec returns)

@@ -1,0 +1,15 @@
+-- `shape::Sides::apart` meets its contract. Assumes nothing.
+use Rattle.shape.specs.Beside.{apartOf}
+use Rattle.shape.proofs.Sides.apart.Statement.{statement}
+use Rattle.shape.proofs.Sides.apart.Tie as tie
+
+returns : tie.Need-returns
+unfolding apartOf
+returns c = rw (c .if1 .taken)
+
+returns-2 : tie.Need-returns-2
+unfolding apartOf
+returns-2 c = rw (c .before .if1 .left)
+
+pub apart-spec : {M : Type 1} → statement M
+apart-spec = tie.close (tie.spec returns returns-2)
