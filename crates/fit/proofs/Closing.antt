@@ -22,8 +22,9 @@ use Rattle.fit.specs.declared.Segment.the-variants as segment
 use Rattle.fit.specs.declared.Walk.{Walk}
 use Rattle.fit.specs.declared.Step.the-variants as step
 use Rattle.fit.specs.Outline.{verbsCheckOf, floatsNeededOf, allInRangeOf, unlessOf, outlineCheckOf}
-use Rattle.fit.specs.Contour.{Contour, Walked, stopped, reached, emptyOf, samePlaceOf, linePointsOf, allLinesOf, walkOf}
-use Rattle.fit.specs.Fit.{parallelogramOf, closedOf, pointsOf, segmentsBoxOf, contourBoxOf, walkedBoxOf, pointsIn, Ended}
+use Rattle.fit.specs.Contour.{Contour, Walked, stopped, reached, emptyOf, samePlaceOf, linePointsOf, allLinesOf}
+use Rattle.fit.specs.Fit.{parallelogramOf, closedOf, pointsOf, segmentsBoxOf, contourBoxOf, walkedBoxOf}
+use Rattle.fit.specs.Kept.{walkOf, pointsIn, Ended}
 use Rattle.fit.proofs.Walking.{empty-none, empty-some, lines-and-line}
 use Rattle.fit.proofs.Points.{pointAt, points-suc, points-length}
 

@@ -22,8 +22,9 @@ use Rattle.fit.specs.declared.Walk.{Walk}
 use Rattle.fit.specs.declared.Step.{Step}
 use Rattle.fit.specs.declared.Step.the-variants as step
 use Rattle.fit.specs.Outline.{floatsOf, floatsNeededOf}
-use Rattle.fit.specs.Contour.{Contour, Walked, stopped, reached, newContour, emptyOf, samePlaceOf, moveOf, pushedOf, lineOf, drawOf, contourStepOf, byteStepOf, contourFrom, linePointsOf, allLinesOf, walkOf, stepOf}
-use Rattle.fit.specs.Fit.{pointsIn, contourOf, Ended}
+use Rattle.fit.specs.Contour.{Contour, Walked, stopped, reached, newContour, emptyOf, samePlaceOf, moveOf, pushedOf, lineOf, drawOf, contourStepOf, byteStepOf, contourFrom, linePointsOf, allLinesOf}
+use Rattle.fit.specs.Fit.{contourOf}
+use Rattle.fit.specs.Kept.{walkOf, stepOf, pointsIn, Ended}
 use Rattle.fit.proofs.Scan.{floats-next}
 use Rattle.fit.proofs.Walking.{lines-and-line, lines-and-curve}
 use Rattle.fit.proofs.Points.{points-none, stored-below, stored-next}

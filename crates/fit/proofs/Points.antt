@@ -11,7 +11,7 @@ use lib.Seq.{getD-append-seam, getD-set-same, getD-set-other}
 use lib.Ieee.{Float, nan}
 use Rattle.geometry.specs.declared.Position.{Position}
 use Rattle.fit.specs.Contour.{origin}
-use Rattle.fit.specs.Fit.{pointsIn}
+use Rattle.fit.specs.Kept.{pointsIn}
 
 abbrev pub pointAt : List Float → List Float → ℕ → Position
 pointAt xs ys i = record { x = getD xs i nan; y = getD ys i nan }

@@ -12,7 +12,8 @@ use Rattle.float.specs.Simple.{maxOf}
 use Rattle.geometry.specs.declared.Position.{Position}
 use Rattle.shape.specs.declared.MaybeBox.the-variants as maybe
 use Rattle.fit.specs.Contour.{origin}
-use Rattle.fit.specs.Fit.{reachOf, sizeBelow, sizeOf, turnsOf, turnsAtOf, cornersBelow, cornersOf, fourOf, pointsIn, countOf}
+use Rattle.fit.specs.Fit.{reachOf, sizeBelow, sizeOf, turnsOf, turnsAtOf, cornersBelow, cornersOf, fourOf}
+use Rattle.fit.specs.Kept.{pointsIn, countOf}
 use Rattle.fit.proofs.Points.{pointAt, points-none, points-length, points-at, stored-below, stored-next}
 
 module _ (start : Position) (xs ys : List Float) (n : ℕ) where

@@ -12,7 +12,8 @@ use Rattle.fit.specs.declared.Segment.the-variants as segment
 use Rattle.fit.specs.declared.Walk.{Walk}
 use Rattle.fit.specs.declared.Step.{Step}
 use Rattle.fit.specs.declared.Step.the-variants as step
-use Rattle.fit.specs.Contour.{Contour, Walked, stopped, reached, emptyOf, samePlaceOf, moveOf, pushedOf, lineOf, pushOf, drawOf, allLinesOf, walkOf, walkPushedOf, shutOf, stepOf}
+use Rattle.fit.specs.Contour.{Contour, Walked, stopped, reached, emptyOf, samePlaceOf, moveOf, pushedOf, lineOf, pushOf, drawOf, allLinesOf}
+use Rattle.fit.specs.Kept.{walkOf, walkPushedOf, shutOf, stepOf}
 
 -- ---- lists of segments
 

@@ -2,7 +2,6 @@
 use mathlib.Core.Bool.{Bool, true, false, cond, not, _&&_, _||_}
 use mathlib.Core.List.{List, [], _∷_, _++_}
 use Prim.Native.Nat.{ℕ, _+_}
-use lib.ListN.{length}
 use lib.Ieee.{Float, eq}
 use Rattle.float.specs.Ops.{f0}
 use Rattle.geometry.specs.declared.Position.{Position}
@@ -13,9 +12,6 @@ use Rattle.path.specs.declared.Verb.the-variants as verb
 use Rattle.path.specs.Verbs.{unpackedOf, fromPackedOf}
 use Rattle.fit.specs.declared.Segment.{Segment}
 use Rattle.fit.specs.declared.Segment.the-variants as segment
-use Rattle.fit.specs.declared.Walk.{Walk}
-use Rattle.fit.specs.declared.Step.{Step}
-use Rattle.fit.specs.declared.Step.the-variants as step
 use Rattle.fit.specs.Outline.{floatsOf}
 
 -- `contour`'s locals; `start` has no value before the first MoveTo
@@ -88,7 +84,7 @@ contourFrom stopped (byte ∷ bytes) positions at = stopped
 contourFrom (reached k) (byte ∷ bytes) positions at =
     contourFrom (byteStepOf k (unpackedOf byte) positions at) bytes positions (at + floatsOf byte)
 
--- ---- what the code keeps of a contour
+-- ---- what `parallelogram` asks of the segments
 
 -- the ends of lines
 abbrev pub linePointsOf : List Segment → List Position
@@ -101,33 +97,3 @@ abbrev pub allLinesOf : List Segment → Bool
 allLinesOf [] = true
 allLinesOf (segment.Line x y ∷ ss) = allLinesOf ss
 allLinesOf (segment.Cubic a b c d x y ∷ ss) = false
-
--- a contour without its segments, but for their number and whether all are lines
-unfoldable pub walkOf : Contour → Walk
-walkOf k =
-    record {
-      started = k .started;
-      closed = k .closed;
-      straight = allLinesOf (k .segments);
-      sx = k .start .x;
-      sy = k .start .y;
-      lx = k .last .x;
-      ly = k .last .y;
-      count = length (k .segments);
-    }
-
--- `pushedOf` and Verb::Close of what is kept, and `closed || start.is_none()`
-unfoldable pub walkPushedOf : Walk → Float → Float → Bool → Walk
-walkPushedOf w x y straight =
-    record { started = w .started; closed = w .closed; straight = straight; sx = w .sx; sy = w .sy; lx = x; ly = y; count = w .count + 1 }
-
-unfoldable pub walkClosedOf : Walk → Walk
-walkClosedOf w =
-    record { started = w .started; closed = true; straight = w .straight; sx = w .sx; sy = w .sy; lx = w .lx; ly = w .ly; count = w .count }
-
-unfoldable pub shutOf : Walk → Bool
-shutOf w = w .closed || not (w .started)
-
-abbrev pub stepOf : Walked → Step
-stepOf stopped = step.Stop
-stepOf (reached k) = step.Go (walkOf k)

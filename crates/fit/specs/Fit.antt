@@ -1,10 +1,9 @@
 -- shape.rs's `parallelogram` and `fit`, for straight outlines. `⊕ ⊖ ⊗ ⊘` are binary32's operations, and each rounds once. Definitions only.
-use mathlib.Core.Path.{_≡_}
 use mathlib.Core.Bool.{Bool, true, false, cond, _&&_}
 use mathlib.Core.List.{List, [], _∷_, _++_}
-use Prim.Native.Nat.{ℕ, zero, suc, _+_, _-_, _%_, _≤_}
+use Prim.Native.Nat.{ℕ, zero, suc, _+_, _-_, _%_}
 use lib.ListN.{length, getD, take}
-use lib.Ieee.{Float, nan, binary32, ofBits, lt, le}
+use lib.Ieee.{Float, binary32, ofBits, lt, le}
 use Rattle.float.specs.Ops.{_⊕_, _⊖_, _⊗_, _⊘_, f0, f½}
 use Rattle.float.specs.Simple.{absOf, maxOf}
 use Rattle.float.specs.Root.{hypotOf}
@@ -16,11 +15,9 @@ use Rattle.shape.specs.declared.BoxAnswer.{BoxAnswer}
 use Rattle.shape.specs.Calls.{boxUnless}
 use Rattle.fit.specs.declared.Segment.{Segment}
 use Rattle.fit.specs.declared.Segment.the-variants as segment
-use Rattle.fit.specs.declared.Step.{Step}
-use Rattle.fit.specs.declared.Step.the-variants as step
 use Rattle.fit.specs.declared.Corners.{Corners}
 use Rattle.fit.specs.Outline.{outlineCheckOf}
-use Rattle.fit.specs.Contour.{Contour, Walked, stopped, reached, origin, newContour, contourFrom, emptyOf, samePlaceOf, linePointsOf, allLinesOf, walkOf}
+use Rattle.fit.specs.Contour.{Contour, Walked, stopped, reached, origin, newContour, contourFrom, emptyOf, samePlaceOf, linePointsOf, allLinesOf}
 
 -- CORNER_TOLERANCE, 1e-4
 abbrev pub cornerTolerance : Float
@@ -139,27 +136,3 @@ fitOf verbs positions = walkedBoxOf (contourOf verbs positions)
 -- the public call
 abbrev pub fitCall : List ℕ → List Float → BoxAnswer
 fitCall verbs positions = boxUnless (outlineCheckOf verbs positions) (fitOf verbs positions)
-
--- ---- what the code keeps of a list of points
-
--- the first n points, their numbers in two lists
-unfoldable pub pointsIn : List Float → List Float → ℕ → List Position
-pointsIn xs ys zero = []
-pointsIn xs ys (suc n) = pointsIn xs ys n ++ (record { x = getD xs n nan; y = getD ys n nan } ∷ [])
-
--- where a walk ended, with the start and the ends of its segments in two lists as long as all are lines
-abbrev pub Ended : Walked → Step → List Float → List Float → Type 0
-Ended stopped r xs ys = r ≡ step.Stop
-Ended (reached k) r xs ys =
-    (r ≡ step.Go (walkOf k))
-    × (length (k .segments) ≤ 256)
-    × (allLinesOf (k .segments) ≡ true → pointsIn xs ys (length (k .segments) + 1) ≡ k .start ∷ linePointsOf (k .segments))
-
--- the corners of an outline in two lists, m of them
-pub record Turned (points : List Position) (size : Float) (m : ℕ) (cx cy : List Float) : Type 0 where
-  pub corners : pointsIn cx cy m ≡ cornersOf points size
-
--- 1 for a test that passes
-abbrev pub countOf : Bool → ℕ
-countOf true = 1
-countOf false = 0

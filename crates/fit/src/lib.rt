@@ -4,8 +4,9 @@ ghost use mathlib.Core.Path.{_≡_};
 ghost use Prim.Native.Nat.{_<_, _≤_};
 ghost use lib.ListN.{length};
 ghost use Rattle.fit.specs.Outline.{verbCheckOf, verbsCheckOf, floatsOf, floatsNeededOf, allInRangeOf, unlessOf, outlineCheckOf};
-ghost use Rattle.fit.specs.Contour.{Contour, newContour, samePlaceOf, drawOf, moveOf, contourStepOf, walkOf, walkPushedOf, walkClosedOf, shutOf, stepOf, reached};
-ghost use Rattle.fit.specs.Fit.{reachOf, sizeOf, crossOf, turnsOf, turnsAtOf, cornersOf, closeOf, centredOf, spannedOf, cornersBoxOf, parallelogramOf, contourOf, fitOf, halfSideOf, contourBoxOf, fitCall, pointsIn, Ended, Turned, countOf};
+ghost use Rattle.fit.specs.Contour.{Contour, newContour, samePlaceOf, drawOf, moveOf, contourStepOf, reached};
+ghost use Rattle.fit.specs.Fit.{reachOf, sizeOf, crossOf, turnsOf, turnsAtOf, cornersOf, closeOf, centredOf, spannedOf, cornersBoxOf, parallelogramOf, contourOf, fitOf, halfSideOf, contourBoxOf, fitCall};
+ghost use Rattle.fit.specs.Kept.{walkOf, walkPushedOf, walkClosedOf, shutOf, stepOf, pointsIn, Ended, Turned, countOf};
 use fault::Fault;
 use geometry::Position;
 use geometry::Transform2D;
@@ -518,7 +519,7 @@ fn closed(walk: Walk, xs: &[f32; 257], ys: &[f32; 257]) -> MaybeBox
     MaybeBox::NoBox
 }
 
-pub fn fit_unchecked(verbs: &[u8], positions: &[f32]) -> MaybeBox
+fn fit_unchecked(verbs: &[u8], positions: &[f32]) -> MaybeBox
     requires { ⌜ length (now verbs) ≤ 256 ⌝ }
     requires { ⌜ floatsNeededOf (now verbs) ≡ length (now positions) ⌝ }
     ensures { λ r. ⌜ r ≡ fitOf (now (verbs .entry)) (now (positions .entry)) ⌝ }

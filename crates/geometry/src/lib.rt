@@ -68,6 +68,7 @@ impl Transform2D {
     }
 
     // The product with `other`'s inverse.
+    // Ruled out: the quotient turned round; the inverse of the product.
     pub fn div(self, other: Self) -> Self
         ensures { λ r. ⌜ r ≡ quotientOf self other ⌝ }
     {

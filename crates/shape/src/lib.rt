@@ -342,7 +342,7 @@ impl RoundedBox {
         Position { x: rx, y: ry }
     }
 
-    pub fn coverage_unchecked(self, fringe: f32) -> MaybeCoverage
+    fn coverage_unchecked(self, fringe: f32) -> MaybeCoverage
         ensures { λ r. ⌜ r ≡ coverageOf self fringe ⌝ }
     {
         let frame = self.frame;
@@ -451,7 +451,7 @@ impl RoundedBox {
     const CORNER_SIGN_Y: [f32; 4] = [-1.0, -1.0, 1.0, 1.0];
 
     // Point i of the 36 along the outline: nine on each corner's arc.
-    pub fn outline_point(self, i: usize) -> Position
+    fn outline_point(self, i: usize) -> Position
         requires { ⌜ i < 36 ⌝ }
         ensures { λ r. ⌜ r ≡ outlinePointOf self i ⌝ }
     {
@@ -575,7 +575,7 @@ impl RoundedBox {
 
     // `other` in this box's frame when the two have parallel sides: its centre, and its half sides and
     // radii along this frame's axes.
-    pub fn alongside(self, other: Self) -> Alongside
+    fn alongside(self, other: Self) -> Alongside
         ensures { λ r. ⌜ r ≡ alongsideOf self other ⌝ }
     {
         let mine = self.frame;
@@ -660,7 +660,7 @@ impl RoundedBox {
         }
     }
 
-    pub fn rect_intersection_unchecked(self, other: Self) -> MaybeBox
+    fn rect_intersection_unchecked(self, other: Self) -> MaybeBox
         ensures { λ r. ⌜ r ≡ rectIntersectionOf self other ⌝ }
     {
         if self.both_square(other) {
@@ -792,7 +792,7 @@ impl RoundedBox {
         self.round_overlap(other, theirs, mine, fringe, slack)
     }
 
-    pub fn intersection_within_unchecked(self, other: Self, fringe: f32, slack: f32) -> MaybeBox
+    fn intersection_within_unchecked(self, other: Self, fringe: f32, slack: f32) -> MaybeBox
         ensures { λ r. ⌜ r ≡ intersectionWithinOf self other fringe slack ⌝ }
     {
         let Alongside::Placed(p) = self.alongside(other) else {
@@ -913,7 +913,7 @@ impl ClipCoverage {
         (k1 - 1.0) * k1 / float::sqrt(gx * gx + gy * gy + 2.0 * gx * gy * lean)
     }
 
-    pub fn distance_unchecked(self, p: Position) -> f32
+    fn distance_unchecked(self, p: Position) -> f32
         ensures { λ r. ⌜ r ≡ distanceOf self p ⌝ }
     {
         let u = Position {

@@ -1,7 +1,8 @@
 -- `fit::parallelogram` meets its contract: the turning points are the definition's, and there are four of them or not. Assumes nothing.
 use Rattle.fit.proofs.Points.{points-length}
 use Rattle.fit.proofs.Turning.{not-four}
-use Rattle.fit.specs.Fit.{parallelogramOf, pointsIn}
+use Rattle.fit.specs.Fit.{parallelogramOf}
+use Rattle.fit.specs.Kept.{pointsIn}
 use mathlib.Core.Path.{refl, sym, _∙_}
 use borrow.Author.Needs.{needs}
 use Rattle.fit.proofs.parallelogram.Statement.{statement}

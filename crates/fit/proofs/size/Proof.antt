@@ -2,7 +2,8 @@
 use Prim.Native.Nat.{_≤_, _-_}
 use borrow.Author.Needs.{needs}
 use Rattle.fit.proofs.Turning.{size-none, size-next, size-all}
-use Rattle.fit.specs.Fit.{sizeBelow, pointsIn}
+use Rattle.fit.specs.Fit.{sizeBelow}
+use Rattle.fit.specs.Kept.{pointsIn}
 use denote.Ref.{now}
 use mathlib.Core.Path.{_≡_, sym, _∙_}
 use native.Mathlib.Nat.{le-antisymm}

@@ -2,7 +2,8 @@
 use Prim.Native.Nat.{_≤_, _<_, _-_}
 use borrow.Author.Needs.{needs}
 use Rattle.fit.proofs.Turning.{corner-none, corner-next, corner-all, count-le}
-use Rattle.fit.specs.Fit.{cornersBelow, turnsAtOf, pointsIn}
+use Rattle.fit.specs.Fit.{cornersBelow, turnsAtOf}
+use Rattle.fit.specs.Kept.{pointsIn}
 use denote.Ref.{now}
 use lib.ListN.{length, length-set}
 use mathlib.Core.Path.{_≡_, _∙_}

@@ -1,6 +1,6 @@
 -- `fit::Walk::close` meets its contract. Assumes nothing.
 use mathlib.Core.Path.{refl}
-use Rattle.fit.specs.Contour.{walkClosedOf}
+use Rattle.fit.specs.Kept.{walkClosedOf}
 use Rattle.fit.proofs.Walk.close.Statement.{statement}
 use Rattle.fit.proofs.Walk.close.Tie as tie
 

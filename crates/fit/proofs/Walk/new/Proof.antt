@@ -1,6 +1,6 @@
 -- `fit::Walk::new` meets its contract. Assumes nothing.
 use mathlib.Core.Path.{refl}
-use Rattle.fit.specs.Contour.{walkOf}
+use Rattle.fit.specs.Kept.{walkOf}
 use Rattle.fit.proofs.Walk.new.Statement.{statement}
 use Rattle.fit.proofs.Walk.new.Tie as tie
 

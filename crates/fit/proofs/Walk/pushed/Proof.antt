@@ -1,6 +1,6 @@
 -- `fit::Walk::pushed` meets its contract. Assumes nothing.
 use mathlib.Core.Path.{refl}
-use Rattle.fit.specs.Contour.{walkPushedOf}
+use Rattle.fit.specs.Kept.{walkPushedOf}
 use borrow.Author.Needs.{needs}
 use Rattle.fit.proofs.Walk.pushed.Statement.{statement}
 use Rattle.fit.proofs.Walk.pushed.Tie as tie

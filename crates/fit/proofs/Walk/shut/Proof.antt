@@ -1,5 +1,5 @@
 -- `fit::Walk::shut` meets its contract. Assumes nothing.
-use Rattle.fit.specs.Contour.{shutOf}
+use Rattle.fit.specs.Kept.{shutOf}
 use Rattle.fit.proofs.Walk.shut.Statement.{statement}
 use Rattle.fit.proofs.Walk.shut.Tie as tie
 

@@ -1,5 +1,5 @@
 -- `fit::Walk::step` meets its contract. Assumes nothing.
-use Rattle.fit.specs.Contour.{walkOf, walkClosedOf}
+use Rattle.fit.specs.Kept.{walkOf, walkClosedOf}
 use borrow.Author.Needs.{needs}
 use Rattle.fit.proofs.Walk.step.Statement.{statement}
 use Rattle.fit.proofs.Walk.step.Tie as tie
