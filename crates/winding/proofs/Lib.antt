@@ -1,0 +1,11 @@
+pub mod MeanOf
+pub mod Steps
+pub mod Pieces
+pub mod Convex
+pub mod Mean
+pub mod Cells
+pub mod Part
+pub mod Fold
+pub mod Sizes
+pub mod Upto
+pub mod Span
