@@ -57,6 +57,15 @@ lt-not h e = omega (arith, h .lt, e .eq)
 pub lt-not-le : {x y : Fraction} → x <ᶠ y → ¬ (y ≤ᶠ x)
 lt-not-le h k = omega (arith, h .lt, k .le)
 
+pub lt-trans : {x y z : Fraction} → x <ᶠ y → y <ᶠ z → x <ᶠ z
+lt-trans {x} {y} {z} h k = over (x ∷ y ∷ z ∷ []) (λ N n X Y Z. lt-at N X Z (omega (arith, at-lt N X Y n h, at-lt N Y Z n k)))
+
+pub le-lt : {x y z : Fraction} → x ≤ᶠ y → y <ᶠ z → x <ᶠ z
+le-lt {x} {y} {z} h k = over (x ∷ y ∷ z ∷ []) (λ N n X Y Z. lt-at N X Z (omega (arith, at-le N X Y h, at-lt N Y Z n k)))
+
+pub lt-le : {x y z : Fraction} → x <ᶠ y → y ≤ᶠ z → x <ᶠ z
+lt-le {x} {y} {z} h k = over (x ∷ y ∷ z ∷ []) (λ N n X Y Z. lt-at N X Z (omega (arith, at-lt N X Y n h, at-le N Y Z k)))
+
 -- the difference of two in order
 pub sub-above : {x y : Fraction} → x <ᶠ y → natᶠ 0 <ᶠ y -ᶠ x
 sub-above {x} {y} h = over (x ∷ y ∷ natᶠ 0 ∷ []) (λ N n X Y O. lt-at N O (sub-at N Y X) (omega (arith, O .is, at-lt N X Y n h)))
