@@ -1,10 +1,10 @@
 -- A float cut to an unsigned number of w bits, by its tests against 2 ^ w and -1. For any width. Assumes nothing.
-use mathlib.Core.Path.{_≡_, refl, sym, ap, _∙_, subst}
+use mathlib.Core.Path.{_≡_, refl, sym, _∙_, subst}
 use mathlib.Core.Bool.{Bool, true, false, _||_, _&&_, true≢false, false≢true}
-use Prim.Native.Nat.{ℕ, suc, _+_, _*_, _-_, _/_, _^_, _<_, _≤_, min}
-use native.Mathlib.Nat.{le-of-lt, le-trans, le-div-iff-mul-le, div-lt-iff-lt-mul, min-eq-left, min-eq-right, mul-one, one-mul, mul-pos, lt-of-lt-of-le}
+use Prim.Native.Nat.{ℕ, _+_, _*_, _-_, _/_, _^_, _<_, _≤_, min}
+use native.Mathlib.Nat.{le-of-lt, le-trans, le-div-iff-mul-le, div-lt-iff-lt-mul, min-eq-left, min-eq-right, zero-min, mul-one, one-mul, mul-pos, lt-of-lt-of-le}
 use native.Mathlib.Omega.{arith}
-use lib.IntN.{ℤ, pos, negsuc}
+use lib.IntN.{ℤ, pos}
 use lib.Dec.{T, ltb, eqb}
 use lib.Pow.{pow-pos, pow-mono, ones-lt, le-ones}
 use lib.Ieee.{Float, nan, inf, fin, lt, le, eq, up, down, toUnsigned}
@@ -76,3 +76,12 @@ module _ (w : ℕ) where
   cut-fits (fin false m e) n h g =
       let q = div-lt-iff-lt-mul (down-pos e) .0 (lt-of-lt-of-le (low m e h) (pow-mono n)) in
       subst T (sym (lt-ltb (m * up e * 1) (18446744073709551616 * down e) (simp mul-one q))) tt
+
+-- a number of fewer bits is one of more, held down
+pub cut-narrower : (v w : ℕ) (x : Float) → v ≤ w → min (toUnsigned w x) (2 ^ v - 1) ≡ toUnsigned v x
+unfolding toUnsigned
+cut-narrower v w nan h = zero-min (2 ^ v - 1)
+cut-narrower v w (inf true) h = zero-min (2 ^ v - 1)
+cut-narrower v w (inf false) h = let p : 2 ^ v ≤ 2 ^ w = pow-mono h in omega arith
+cut-narrower v w (fin true m e) h = zero-min (2 ^ v - 1)
+cut-narrower v w (fin false m e) h = let p : 2 ^ v ≤ 2 ^ w = pow-mono h in omega arith

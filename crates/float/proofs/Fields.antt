@@ -1,25 +1,26 @@
 -- What the fields of a bit pattern stand for. Over the width. Assumes nothing.
 use mathlib.Core.Path.{_≡_, refl, sym, ap, _∙_, subst}
-use mathlib.Core.Logic.{_⊎_, inl, inr}
+use mathlib.Core.Logic.{inl, inr}
 use mathlib.Core.Bool.{Bool, true, false, not, cond}
-use Prim.Native.Nat.{ℕ, zero, suc, _+_, _-_, _*_, _/_, _%_, _^_, _≤_, _<_}
-use native.Mathlib.Nat.{mod-lt, add-comm, mul-comm, div-lt-iff-lt-mul}
+use Prim.Native.Nat.{ℕ, suc, _+_, _-_, _*_, _/_, _%_, _^_, _<_}
+use native.Mathlib.Nat.{mod-lt, add-zero, add-comm, mul-comm, div-lt-iff-lt-mul}
 use native.Mathlib.Omega.{arith}
 use lib.Dec.{T, leb, eqb, eqb→eq, eqb-refl, lit<}
-use lib.Arith.{le→nltb}
+use borrow.Author.Tests.{eqb-true, eqb-false}
 use lib.Pow.{pow-pos}
-use lib.Ieee.{Float, nan, inf, fin, Format, binary32, binary64, prec, emax, low, odd, hid, ones, top, ofFields, ofBits, toBits, fits, isNan, nanBits}
-use lib.Ieee.Bits.{ofBits-toBits, nanBits-above}
+use lib.Ieee.{Float, nan, inf, fin, Format, binary32, binary64, prec, emax, low, odd, hid, ones, top, ofFields, ofBits, toBits, fits, isNan}
+use lib.Ieee.Bits.{ofBits-toBits}
 use lib.Ieee.Exact.{HasValue, odd-sign}
 use lib.Ieee.Scale.{finite}
-use Rattle.float.specs.Parts.{Unpacked}
+use Rattle.float.specs.Parts.{Unpacked, Fields}
 
 no-field : (f : Format) (s : Bool) (t : ℕ) → HasValue (ofFields f s 0 t) s (t * 2 ^ 0) (2 ^ low f)
 unfolding ofFields
 no-field f s t = odd-sign (prec f) s t 0 (low f)
 
 -- an exponent's field of all ones is an infinity or a NaN
-some-field : (f : Format) (s : Bool) (x t : ℕ) → T (finite (ofFields f s (suc x) t)) → HasValue (ofFields f s (suc x) t) s ((hid f + t) * 2 ^ x) (2 ^ low f) × (suc x ≡ ones f → ⊥)
+some-field : (f : Format) (s : Bool) (x t : ℕ) → T (finite (ofFields f s (suc x) t))
+    → HasValue (ofFields f s (suc x) t) s ((hid f + t) * 2 ^ x) (2 ^ low f) × (suc x ≡ ones f → ⊥)
 unfolding ofFields
 some-field f s x t h = go (eqb (suc x) (ones f)) h (eqb→eq (suc x) (ones f)) (eq→T (suc x) (ones f))
   where
@@ -59,7 +60,7 @@ module _ (f : Format) (x : Float) (held : T (fits f x)) (h : T (finite x)) where
       top-pos binary32 = lit< tt
       top-pos binary64 = lit< tt
 
-  pub apart-zero : bits % top f / hid f ≡ 0 → Unpacked f x (leb (top f) bits) (bits % hid f) 0
+  apart-zero : bits % top f / hid f ≡ 0 → Unpacked f x (leb (top f) bits) (bits % hid f) 0
   apart-zero e =
       let d : bits % hid f < hid f = digits-lt in
       let w : hid f + hid f ≡ 2 ^ prec f = twice f in
@@ -77,7 +78,7 @@ module _ (f : Format) (x : Float) (held : T (fits f x)) (h : T (finite x)) where
       some-emax binary32 = lit< tt
       some-emax binary64 = lit< tt
 
-  pub apart-some : (bits % top f / hid f ≡ 0 → ⊥) → Unpacked f x (leb (top f) bits) (bits % hid f + hid f) (bits % top f / hid f - 1)
+  apart-some : (bits % top f / hid f ≡ 0 → ⊥) → Unpacked f x (leb (top f) bits) (bits % hid f + hid f) (bits % top f / hid f - 1)
   apart-some ne =
       let s = leb (top f) bits in
       let t = bits % hid f in
@@ -106,12 +107,18 @@ module _ (f : Format) (x : Float) (held : T (fits f x)) (h : T (finite x)) where
       in-range : (z m d : ℕ) → d ≡ 2 * m → (z ≡ 0 → ⊥) → z < suc (2 * m + 1) → (z ≡ 2 * m + 1 → ⊥) → z - 1 < d
       in-range z m d e ne l nf = omega arith
 
+  -- what `unpack32` and `unpack64` return
+  pub apart : {s : Bool} {d e : ℕ} → Fields bits (top f) (hid f) s d e → Unpacked f x s d e
+  apart {s} {d} {e} p = rw (p .negative, p .digits, p .exponent) (go (eqb (bits % top f / hid f) 0) refl)
+    where
+      go : (b : Bool) → eqb (bits % top f / hid f) 0 ≡ b → Unpacked f x (leb (top f) bits) (bits % hid f + cond b 0 (hid f)) (bits % top f / hid f - 1)
+      go true h =
+          let z : bits % top f / hid f ≡ 0 = eqb-true _ _ h in
+          rw (add-zero (bits % hid f), ap (λ (n : ℕ). n - 1) z) (apart-zero z)
+      go false h = apart-some (eqb-false _ _ h)
+
 pub number-no-nan : (x : Float) → T (finite x) → T (not (isNan x))
 unfolding isNan
 number-no-nan nan h = h
 number-no-nan (inf s) h = tt
 number-no-nan (fin s m e) h = tt
-
--- a pattern that is not above an infinity's, but for the sign
-pub no-nan-bits : (f : Format) (n : ℕ) → n % top f ≤ ones f * hid f → T (not (nanBits f n))
-no-nan-bits f n h = subst (λ (b : Bool). T (not b)) (sym (nanBits-above f n)) (le→nltb _ _ h)

@@ -1,3 +1,14 @@
+-- Tests, Simple: comparisons; abs, max, min, signum. Pattern, Fields: bit patterns. Shift, Narrowing: f64 to f32. Roots, RootLoop, Rooting: square roots.
+-- Whole, Cast: floor, ceiling, casts. Controls: closed cases.
+--
+-- What the definitions of specs/ mean, in exact numbers:
+--
+--   `floor-below`, `ceil-above` (IntegralBelief)   the whole number at x or less than 1 away, on the lower and on the upper side
+--   `sqrt-nearest` (RootBelief)                    the format's value nearest to the root, ties to even; `wholeRoot-largest`: the largest whole root
+--   `narrow-rounds` (NarrowBelief)                 one rounding to binary32, of which crates/rounding says how near it is
+--   `ofWhole-exact` (CastBelief)                   a whole number up to 2 ^ 24 as a float is that number
+--   `column-below`, `byte-below` (CastBelief)      a float in range is cut to the whole number at it or less than 1 below
+pub mod Tests
 pub mod Simple
 pub mod Pattern
 pub mod Shift
@@ -8,5 +19,8 @@ pub mod RootLoop
 pub mod Rooting
 pub mod Whole
 pub mod Cast
+pub mod IntegralBelief
 pub mod RootBelief
+pub mod NarrowBelief
+pub mod CastBelief
 pub mod Controls

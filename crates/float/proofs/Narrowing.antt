@@ -1,20 +1,20 @@
 -- What the proofs of `narrow_finite` and `narrow` cite: by x's digits and exponent, which value of binary32 is nearest. Assumes nothing.
-use mathlib.Core.Path.{_≡_, refl, sym, ap, _∙_, subst}
+use mathlib.Core.Path.{_≡_, refl, sym, ap, _∙_}
 use mathlib.Core.Logic.{_⊎_, inl, inr}
 use mathlib.Core.Bool.{Bool, true, false}
 use Prim.Native.Nat.{ℕ, _+_, _-_, _*_, _^_, _≤_, _<_}
-use native.Mathlib.Nat.{le-trans, lt-of-lt-of-le, le-of-lt}
+use native.Mathlib.Nat.{lt-of-lt-of-le}
 use native.Mathlib.Omega.{arith}
 use lib.Dec.{T, lit<}
 use lib.Pow.{pow-pos, pow-mono}
-use lib.Ieee.{Float, nan, inf, fin, Format, binary32, binary64, up, down, units, round, ne, eq, neg}
+use lib.Ieee.{Float, nan, inf, fin, binary32, binary64, up, down, units, round, ne, eq}
 use lib.Ieee.Exact.{HasValue}
 use lib.Ieee.Fits.{down-pos}
 use lib.Ieee.Nearest.{closest}
-use lib.Ieee.Scale.{round-same}
-use lib.Ieee.Scale.{finite}
+use lib.Ieee.Scale.{round-same, finite}
 use Rattle.float.specs.Width.{narrowOf}
 use Rattle.float.specs.Parts.{Unpacked}
+use Rattle.float.proofs.Tests.{never, is-inf, is-nan}
 use Rattle.float.proofs.Shift.{closest-le, closest-ge, closest-none, round-shift}
 
 narrowed-value : (x : Float) (s : Bool) (a c : ℕ) → 0 < c → HasValue x s a c → narrowOf x ≡ round binary32 s a c
@@ -23,7 +23,7 @@ narrowed-value nan s a c C v = absurd v
 narrowed-value (inf t) s a c C v = absurd v
 narrowed-value (fin t m e) s a c C v = round-same binary32 t (m * up e) (down e) a c (down-pos e) C (v .1) ∙ ap (λ (b : Bool). round binary32 b a c) (v .0)
 
-module _ (x : Float) (s : Bool) (d e : ℕ) (p : Unpacked binary64 x s d e) where
+module _ {x : Float} {s : Bool} {d e : ℕ} (p : Unpacked binary64 x s d e) where
   is-round : narrowOf x ≡ round binary32 s (d * 2 ^ e) (2 ^ 1074)
   is-round = narrowed-value x s (d * 2 ^ e) (2 ^ 1074) (pow-pos 1074) (p .value)
 
@@ -65,22 +65,9 @@ module _ (x : Float) (s : Bool) (d e : ℕ) (p : Unpacked binary64 x s d e) wher
 
 -- ---- the values that are no numbers
 
-never : {X : Type 0} → false ≡ true → X
-never h = absurd (subst T (sym h) tt)
-
-pub of-top : (x : Float) → eq x (inf false) ≡ true → inf false ≡ narrowOf x
-unfolding eq narrowOf
-of-top nan h = never h
-of-top (inf false) h = refl
-of-top (inf true) h = never h
-of-top (fin s m e) h = never h
-
-pub of-bottom : (x : Float) → eq x (inf true) ≡ true → inf true ≡ narrowOf x
-unfolding eq narrowOf
-of-bottom nan h = never h
-of-bottom (inf true) h = refl
-of-bottom (inf false) h = never h
-of-bottom (fin s m e) h = never h
+pub of-inf : (t : Bool) (x : Float) → eq x (inf t) ≡ true → inf t ≡ narrowOf x
+unfolding narrowOf
+of-inf t x h = rw (is-inf t x h)
 
 pub left-over : (x : Float) → ne x x ≡ false → eq x (inf false) ≡ false → eq x (inf true) ≡ false → T (finite x)
 unfolding eq ne
@@ -89,6 +76,6 @@ left-over (inf false) h k l = never (sym k)
 left-over (inf true) h k l = never (sym l)
 left-over (fin s m e) h k l = tt
 
-pub of-nan : (x : Float) → x ≡ nan → nan ≡ narrowOf x
+pub of-nan : (x : Float) → ne x x ≡ true → nan ≡ narrowOf x
 unfolding narrowOf
-of-nan x h = rw h
+of-nan x h = rw (is-nan x h)

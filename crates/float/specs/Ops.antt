@@ -1,10 +1,11 @@
--- The operators of Rust's `f32` as infix, for the definitions of the crates above, and the constants that they share.
--- Each operator is IEEE 754's on binary32: the exact result, rounded once to nearest, ties to even (document 01: 'Each float operation rounds once').
--- `lib.Ieee` says what they mean. Definitions only.
+-- The operators of Rust's `f32` as infix, for the definitions of the crates above, and the constants that they share. `lib.Ieee` says what they mean.
+-- Definitions only.
 use lib.Ieee.{Float, binary32, add, sub, mul, div, neg, ofBits}
 
 infixl 6 _⊕_ _⊖_
 infixl 7 _⊗_ _⊘_
+-- IEEE 754's addition, subtraction, multiplication and division on binary32: the exact result, rounded once to nearest, ties to even (document 01: 'Each float
+-- operation rounds once')
 abbrev pub _⊕_ : Float → Float → Float
 x ⊕ y = add binary32 x y
 

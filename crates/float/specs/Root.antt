@@ -1,10 +1,10 @@
 -- Square roots, rounded once, over the width, and hypot. Definitions only.
 -- There are no real numbers here. The whole part of a root is found by squares alone (`wholeRoot`: proofs/RootBelief.antt shows that it is the largest number
 -- whose square is at most n), and whether the root is below, at or above q + 1/2 is asked with both sides squared.
-use Prim.Native.Nat.{ℕ, zero, suc, _+_, _-_, _*_, _/_, _%_, _^_, compare, Ordering, Ordering·lt, Ordering·eq, Ordering·gt}
+use Prim.Native.Nat.{ℕ, zero, suc, _+_, _-_, _*_, _/_, _^_, compare}
 use mathlib.Core.Bool.{true, false, cond}
 use lib.Dec.{leb}
-use lib.Ieee.{Float, nan, inf, fin, Format, binary32, binary64, prec, low, up, down, size, nearest, units, add, mul}
+use lib.Ieee.{Float, nan, inf, fin, Format, binary64, prec, low, up, down, size, nearest, units, add, mul}
 use Rattle.float.specs.Width.{narrowOf}
 
 -- the larger of 2 * r and 2 * r + 1 whose square is at most n
@@ -21,7 +21,7 @@ unfoldable pub wholeRoot : ℕ → ℕ
 unfolding rootBelow size
 wholeRoot n = rootBelow (size n) n
 
--- The value of the format f that is nearest to the root of num / den, ties to even, for a den above 0: `lib.Ieee.round`, of a root.
+-- The value of the format f that is nearest to the root of num / den, IEEE 754's roundTiesToEven, for a den above 0: what `lib.Ieee.round` is, of a root.
 -- In units of f's smallest value the root's square is n / den. Of the root's whole part the format keeps the `prec` leading digits and drops k. The root, in
 -- steps of 2 ^ k units, has the whole part q, and is compared with q + 1/2: four times its square with the square of 2 * q + 1.
 unfoldable pub roundRoot : Format → ℕ → ℕ → Float
@@ -33,7 +33,8 @@ roundRoot f num den =
     let q = wholeRoot (n / u) in
     units f false (nearest q (compare (n * 4) ((2 * q + 1) * (2 * q + 1) * u))) k
 
--- IEEE 754's squareRoot (document 01: 'root is IEEE 754's'): a zero stays as it is, and below zero there is none
+-- IEEE 754's squareRoot (document 01: 'root is IEEE 754's'): a zero stays as it is, and below zero there is none. That it is the nearest value is shown in
+-- proofs/RootBelief.antt, `sqrt-nearest`
 unfoldable pub sqrtOf : Format → Float → Float
 unfolding roundRoot
 sqrtOf f nan = nan

@@ -2,7 +2,7 @@
 // argument, as a definition of specs/ over the logic's account of IEEE 754 (lib.Ieee).
 ghost use mathlib.Core.Path.{_≡_};
 ghost use mathlib.Core.Logic.{_⊎_};
-ghost use Prim.Native.Nat.{_*_, _^_, _≤_, _<_};
+ghost use Prim.Native.Nat.{_+_, _-_, _*_, _/_, _%_, _^_, _≤_, _<_, min as smallerOf};
 ghost use lib.Dec.{T};
 ghost use mathlib.Core.Bool.{true, false};
 ghost use lib.Ieee.{inf, binary32, binary64, units, round};
@@ -11,9 +11,9 @@ ghost use lib.Ieee.Positive.{positive};
 ghost use lib.Ieee.Scale.{finite};
 ghost use Rattle.float.specs.Simple.{absOf, minOf, maxOf, signumOf};
 ghost use Rattle.float.specs.Width.{narrowOf};
-ghost use Rattle.float.specs.Whole.{wholeDiv, floorOf, ceilOf, columnOf, byteOf, ofWhole};
+ghost use Rattle.float.specs.Whole.{stepAway, wholeDiv, integralOf, floorOf, ceilOf, columnOf, byteOf, ofWhole};
 ghost use Rattle.float.specs.Root.{sqrtOf, hypotOf};
-ghost use Rattle.float.specs.Parts.{Unpacked, RootDigits, AlignedBy, roundedHalf};
+ghost use Rattle.float.specs.Parts.{Fields, Unpacked, patternOf, RootDigits, AlignedBy, roundedHalf, RootParts};
 
 // No constant can be an infinity, so it is a function.
 pub fn infinity() -> f32
@@ -94,98 +94,100 @@ pub fn is_finite(x: f32) -> bool
 // ---- a float taken apart and put together
 
 // A finite float: digits * 2 ^ exponent of its format's smallest values.
-pub struct Parts {
-    pub negative: bool,
-    pub digits: u64,
-    pub exponent: u64,
+struct Parts {
+    negative: bool,
+    digits: u64,
+    exponent: u64,
 }
 
-pub fn unpack64(x: f64) -> Parts
-    requires { ⌜ T (finite x) ⌝ }
-    ensures { λ r. ⌜ Unpacked binary64 x (r .negative) (r .digits) (r .exponent) ⌝ }
+// A bit pattern taken apart, by the weights of the format's sign and of its exponent's field.
+fn split_bits(bits: u64, sign: u64, hidden: u64) -> Parts
+    requires { ⌜ 0 < sign ⌝ }
+    requires { ⌜ 0 < hidden ⌝ }
+    requires { ⌜ hidden ≤ 2 ^ 62 ⌝ }
+    ensures { λ r. ⌜ Fields bits sign hidden (r .negative) (r .digits) (r .exponent) ⌝ }
 {
-    let bits = f64::to_bits(x);
-    let negative = bits >= 0x8000_0000_0000_0000;
-    let field = bits % 0x8000_0000_0000_0000 / 0x10_0000_0000_0000;
-    let digits = bits % 0x10_0000_0000_0000;
+    let field = bits % sign / hidden;
+    let digits = bits % hidden;
     if field == 0 {
         return Parts {
-            negative,
+            negative: bits >= sign,
             digits,
             exponent: 0,
         };
     }
     Parts {
-        negative,
-        digits: digits + 0x10_0000_0000_0000,
+        negative: bits >= sign,
+        digits: digits + hidden,
         exponent: field - 1,
     }
 }
 
-pub fn unpack32(x: f32) -> Parts
+fn unpack32(x: f32) -> Parts
     requires { ⌜ T (finite x) ⌝ }
     ensures { λ r. ⌜ Unpacked binary32 x (r .negative) (r .digits) (r .exponent) ⌝ }
 {
-    let bits = f32::to_bits(x) as u64;
-    let negative = bits >= 0x8000_0000;
-    let field = bits % 0x8000_0000 / 0x80_0000;
-    let digits = bits % 0x80_0000;
-    if field == 0 {
-        return Parts {
-            negative,
-            digits,
-            exponent: 0,
-        };
+    split_bits(f32::to_bits(x) as u64, 0x8000_0000, 0x80_0000)
+}
+
+fn unpack64(x: f64) -> Parts
+    requires { ⌜ T (finite x) ⌝ }
+    ensures { λ r. ⌜ Unpacked binary64 x (r .negative) (r .digits) (r .exponent) ⌝ }
+{
+    split_bits(f64::to_bits(x), 0x8000_0000_0000_0000, 0x10_0000_0000_0000)
+}
+
+fn smaller(a: u64, b: u64) -> u64
+    ensures { λ r. ⌜ r ≡ smallerOf a b ⌝ }
+{
+    if a < b {
+        return a;
     }
-    Parts {
-        negative,
-        digits: digits + 0x80_0000,
-        exponent: field - 1,
+    b
+}
+
+// The bit pattern with `size` below the sign, and an infinity's from `infinite` on.
+fn join_bits(negative: bool, size: u64, infinite: u64, sign: u64) -> u64
+    requires { ⌜ infinite < sign ⌝ }
+    requires { ⌜ sign ≤ 2 ^ 63 ⌝ }
+    ensures { λ r. ⌜ r ≡ patternOf negative size infinite sign ⌝ }
+{
+    let held = smaller(size, infinite);
+    if negative {
+        return sign + held;
     }
+    held
 }
 
 // q * 2 ^ k of the smallest values of an f32, or an infinity where that is too large.
-pub fn pack32(negative: bool, q: u64, k: u64) -> f32
+fn pack32(negative: bool, q: u64, k: u64) -> f32
     requires { ⌜ q ≤ 2 ^ 24 ⌝ }
     requires { ⌜ k < 2 ^ 12 ⌝ }
     requires { ⌜ (k ≡ 0) ⊎ (2 ^ 23 ≤ q) ⌝ }
     ensures { λ r. ⌜ r ≡ units binary32 negative q k ⌝ }
 {
-    let pattern = k * 0x80_0000 + q;
-    if pattern < 0x7f80_0000 {
-        if negative {
-            return f32::from_bits((0x8000_0000 + pattern) as u32);
-        }
-        return f32::from_bits(pattern as u32);
-    }
-    if negative {
-        return f32::from_bits(0xff80_0000);
-    }
-    f32::from_bits(0x7f80_0000)
+    let bits = join_bits(negative, k * 0x80_0000 + q, 0x7f80_0000, 0x8000_0000);
+    f32::from_bits(bits as u32)
 }
 
 // The same for an f64.
-pub fn pack64(negative: bool, q: u64, k: u64) -> f64
+fn pack64(negative: bool, q: u64, k: u64) -> f64
     requires { ⌜ q ≤ 2 ^ 53 ⌝ }
     requires { ⌜ k < 2 ^ 11 ⌝ }
     requires { ⌜ (k ≡ 0) ⊎ (2 ^ 52 ≤ q) ⌝ }
     ensures { λ r. ⌜ r ≡ units binary64 negative q k ⌝ }
 {
-    let pattern = k * 0x10_0000_0000_0000 + q;
-    if pattern < 0x7ff0_0000_0000_0000 {
-        if negative {
-            return f64::from_bits(0x8000_0000_0000_0000 + pattern);
-        }
-        return f64::from_bits(pattern);
-    }
-    if negative {
-        return f64::from_bits(0xfff0_0000_0000_0000);
-    }
-    f64::from_bits(0x7ff0_0000_0000_0000)
+    let bits = join_bits(
+        negative,
+        k * 0x10_0000_0000_0000 + q,
+        0x7ff0_0000_0000_0000,
+        0x8000_0000_0000_0000,
+    );
+    f64::from_bits(bits)
 }
 
 // a / unit to the nearest whole number, ties to even.
-pub fn nearest_div(a: u64, unit: u64) -> u64
+fn nearest_div(a: u64, unit: u64) -> u64
     requires { ⌜ a < 2 ^ 62 ⌝ }
     requires { ⌜ 0 < unit ⌝ }
     ensures { λ r. ⌜ r ≡ closest a unit ⌝ }
@@ -212,7 +214,7 @@ pub fn widen(x: f32) -> f64
 }
 
 // The f32 nearest to a finite x, ties to even.
-pub fn narrow_finite(x: f64) -> f32
+fn narrow_finite(x: f64) -> f32
     requires { ⌜ T (finite x) ⌝ }
     ensures { λ r. ⌜ r ≡ narrowOf x ⌝ }
 {
@@ -250,15 +252,15 @@ pub fn narrow(x: f64) -> f32
 
 // ---- square roots
 
-// A whole root, and what its square lacks.
-pub struct Root {
-    pub root: u64,
-    pub rest: u64,
+// A whole root, and what its square lacks of the number.
+struct Root {
+    root: u64,
+    rest: u64,
 }
 
 // The first `steps` binary digits of a's root, a pair of a's digits for each, from the highest, and
 // of zeros after those 64.
-pub fn root_digits(a: u64, steps: u64) -> Root
+fn root_digits(a: u64, steps: u64) -> Root
     requires { ⌜ steps ≤ 54 ⌝ }
     ensures { λ r. ⌜ RootDigits a steps (r .root) (r .rest) ⌝ }
 {
@@ -282,7 +284,7 @@ pub fn root_digits(a: u64, steps: u64) -> Root
 
 // root / 2 to the nearest whole number: below, at or above a half by root's last digit, with rest 0
 // only where root is exact. Ties to even.
-pub fn round_root(root: u64, rest: u64) -> u64
+fn round_root(root: u64, rest: u64) -> u64
     ensures { λ r. ⌜ r ≡ roundedHalf root rest ⌝ }
 {
     let q = root / 2;
@@ -295,13 +297,13 @@ pub fn round_root(root: u64, rest: u64) -> u64
     q + 1
 }
 
-pub struct Aligned {
-    pub a: u64,
-    pub shift: u64,
+struct Aligned {
+    a: u64,
+    shift: u64,
 }
 
 // d moved up as far as 64 digits allow with e + shift even.
-pub fn align(d: u64, e: u64) -> Aligned
+fn align(d: u64, e: u64) -> Aligned
     requires { ⌜ 0 < d ⌝ }
     requires { ⌜ d < 2 ^ 60 ⌝ }
     requires { ⌜ e < 2 ^ 12 ⌝ }
@@ -315,28 +317,43 @@ pub fn align(d: u64, e: u64) -> Aligned
     }
 }
 
-// The root of a number above 0, rounded once: 54 digits of it are found, one more than an f64 keeps.
-pub fn root64(x: f64) -> f64
-    requires { ⌜ T (positive x) ⌝ }
-    ensures { λ r. ⌜ r ≡ sqrtOf binary64 x ⌝ }
+// The root of d * 2 ^ e of a format's smallest values, to the `keep` digits of the format. The bias
+// is low + 64 - 2 * keep where the smallest value is 2 ^ -low: e in steps of a root's unit.
+fn root_parts(d: u64, e: u64, keep: u64, bias: u64) -> Parts
+    requires { ⌜ 0 < d ⌝ }
+    requires { ⌜ d < 2 ^ keep ⌝ }
+    requires { ⌜ keep ≤ 53 ⌝ }
+    requires { ⌜ e < 2 ^ 11 ⌝ }
+    requires { ⌜ 64 ≤ bias ⌝ }
+    requires { ⌜ bias < 2 ^ 11 ⌝ }
+    ensures { λ r. ⌜ RootParts d e keep bias (r .digits) (r .exponent) ⌝ }
 {
-    let p = unpack64(x);
-    let e = p.exponent;
-    let up = align(p.digits, e);
-    let r = root_digits(up.a, 54);
-    pack64(false, round_root(r.root, r.rest), (e + 1032 - up.shift) / 2)
+    let up = align(d, e + bias);
+    let r = root_digits(up.a, keep + 1);
+    Parts {
+        negative: false,
+        digits: round_root(r.root, r.rest),
+        exponent: (e + bias - up.shift) / 2,
+    }
 }
 
-// The same of an f32, by 25 digits.
-pub fn root32(x: f32) -> f32
+// The root of a number above 0, rounded once.
+fn root32(x: f32) -> f32
     requires { ⌜ T (positive x) ⌝ }
     ensures { λ r. ⌜ r ≡ sqrtOf binary32 x ⌝ }
 {
     let p = unpack32(x);
-    let e = p.exponent;
-    let up = align(p.digits, e + 1);
-    let r = root_digits(up.a, 25);
-    pack32(false, round_root(r.root, r.rest), (e + 165 - up.shift) / 2)
+    let r = root_parts(p.digits, p.exponent, 24, 165);
+    pack32(false, r.digits, r.exponent)
+}
+
+fn root64(x: f64) -> f64
+    requires { ⌜ T (positive x) ⌝ }
+    ensures { λ r. ⌜ r ≡ sqrtOf binary64 x ⌝ }
+{
+    let p = unpack64(x);
+    let r = root_parts(p.digits, p.exponent, 53, 1032);
+    pack64(false, r.digits, r.exponent)
 }
 
 // IEEE 754's square root.
@@ -382,32 +399,6 @@ pub fn hypot(x: f32, y: f32) -> f32
 
 // ---- whole numbers
 
-// d * 2 ^ e of the smallest values of an f32 as a whole number: cut, and away from zero.
-pub struct Cuts {
-    pub low: u64,
-    pub high: u64,
-}
-
-pub fn cut_whole(d: u64, e: u64) -> Cuts
-    requires { ⌜ d < 2 ^ 24 ⌝ }
-    requires { ⌜ e < 149 ⌝ }
-    ensures { λ r. ⌜ (r .low ≡ wholeDiv false (d * 2 ^ e) (2 ^ 149)) × (r .high ≡ wholeDiv true (d * 2 ^ e) (2 ^ 149)) × (r .high ≤ 2 ^ 24) ⌝ }
-{
-    if e < 100 {
-        // below 1
-        if d == 0 {
-            return Cuts { low: 0, high: 0 };
-        }
-        return Cuts { low: 0, high: 1 };
-    }
-    let unit = 1 << (149 - e);
-    let low = d / unit;
-    if d % unit == 0 {
-        return Cuts { low, high: low };
-    }
-    Cuts { low, high: low + 1 }
-}
-
 // n as a float, exactly.
 pub fn from_whole(n: usize) -> f32
     requires { ⌜ n ≤ 2 ^ 24 ⌝ }
@@ -433,49 +424,80 @@ pub fn to_column(x: f32) -> usize
 pub fn to_byte(x: f32) -> u8
     ensures { λ r. ⌜ r ≡ byteOf x ⌝ }
 {
-    if x >= 256.0 {
-        return 255;
+    let n = to_column(x);
+    if n < 255 {
+        return n as u8;
     }
-    if x > -1.0 {
-        return std::num::truncating_f32_to_u64(x) as u8;
-    }
-    0
+    255
 }
 
-// The largest whole number that is no larger than x; a NaN and the infinities stay.
+// A quotient of which `left` is left over, as a whole number: q, or `away` from zero the next one.
+fn step_away(q: u64, left: u64, away: bool) -> u64
+    requires { ⌜ q < 2 ^ 24 ⌝ }
+    ensures { λ r. ⌜ r ≡ stepAway away q left ⌝ }
+{
+    if away {
+        if left == 0 {
+            return q;
+        }
+        return q + 1;
+    }
+    q
+}
+
+// d * 2 ^ e of the smallest values of an f32 as a whole number: cut, or away from zero.
+fn cut_whole(d: u64, e: u64, away: bool) -> u64
+    requires { ⌜ d < 2 ^ 24 ⌝ }
+    requires { ⌜ e < 149 ⌝ }
+    ensures { λ r. ⌜ (r ≡ wholeDiv away (d * 2 ^ e) (2 ^ 149)) × (r ≤ 2 ^ 24) ⌝ }
+{
+    if e < 100 {
+        // below 1
+        return step_away(0, d, away);
+    }
+    let unit = 1 << (149 - e);
+    step_away(d / unit, d % unit, away)
+}
+
+// n with a sign, as a float.
+fn signed_whole(negative: bool, n: u64) -> f32
+    requires { ⌜ n ≤ 2 ^ 24 ⌝ }
+    ensures { λ r. ⌜ r ≡ round binary32 negative n 1 ⌝ }
+{
+    let size = from_whole(n as usize);
+    if negative {
+        return -size;
+    }
+    size
+}
+
+// x as a whole number, the next one up or down; a NaN and the infinities stay.
+fn integral(x: f32, up: bool) -> f32
+    ensures { λ r. ⌜ r ≡ integralOf up x ⌝ }
+{
+    if is_finite(x) {
+        let p = unpack32(x);
+        let e = p.exponent;
+        if 149 <= e {
+            return x;
+        }
+        let negative = p.negative;
+        let n = cut_whole(p.digits, e, negative != up);
+        return signed_whole(negative, n);
+    }
+    x
+}
+
+// The largest whole number that is no larger than x.
 pub fn floor(x: f32) -> f32
     ensures { λ r. ⌜ r ≡ floorOf x ⌝ }
 {
-    if is_finite(x) {
-        let p = unpack32(x);
-        let e = p.exponent;
-        if 149 <= e {
-            return x;
-        }
-        let c = cut_whole(p.digits, e);
-        if p.negative {
-            return -from_whole(c.high as usize);
-        }
-        return from_whole(c.low as usize);
-    }
-    x
+    integral(x, false)
 }
 
-// The smallest whole number that is no smaller than x; a NaN and the infinities stay.
+// The smallest whole number that is no smaller than x.
 pub fn ceil(x: f32) -> f32
     ensures { λ r. ⌜ r ≡ ceilOf x ⌝ }
 {
-    if is_finite(x) {
-        let p = unpack32(x);
-        let e = p.exponent;
-        if 149 <= e {
-            return x;
-        }
-        let c = cut_whole(p.digits, e);
-        if p.negative {
-            return -from_whole(c.low as usize);
-        }
-        return from_whole(c.high as usize);
-    }
-    x
+    integral(x, true)
 }

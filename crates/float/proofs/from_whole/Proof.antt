@@ -1,9 +1,8 @@
 -- `float::from_whole` meets its contract: the cast is exact. Assumes nothing.
 use mathlib.Core.Path.{sym, subst}
-use native.Mathlib.Omega.{arith}
 use lib.Dec.{T}
 use Prim.Native.Nat.{_^_}
-use lib.Ieee.{inFloat, ofInt, binary32}
+use lib.Ieee.{inFloat}
 use borrow.Author.Tests.{le-leb}
 use borrow.Author.Needs.{needs}
 use Rattle.float.proofs.from_whole.Statement.{statement}

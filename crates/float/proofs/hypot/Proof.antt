@@ -1,7 +1,5 @@
 -- `float::hypot` meets its contract: the callees' contracts, one after another. Assumes nothing.
 use Rattle.float.specs.Root.{hypotOf}
-use Rattle.float.specs.Width.{narrowOf}
-use mathlib.Core.Path.{_∙_, ap}
 use borrow.Author.Needs.{needs}
 use Rattle.float.proofs.hypot.Statement.{statement}
 use Rattle.float.proofs.hypot.Tie as tie

@@ -1,9 +1,8 @@
 -- `float::root_digits` meets its contract: proofs/RootLoop.antt has the invariant and shows that a turn keeps it. Assumes nothing.
-use Prim.Native.Nat.{ℕ, _+_, _*_, _/_, _^_, _-_, _≤_, _<_}
+use Prim.Native.Nat.{ℕ, _*_, _/_, _^_, _-_, _≤_, _<_}
 use Rattle.float.proofs.RootLoop.{Digits, start, pair-lt, root-fits, step-one, step-zero}
-use Rattle.float.specs.Parts.{RootDigits}
 use mathlib.Core.Logic.{⊎-elim}
-use mathlib.Core.Path.{_≡_, sym, ap, _∙_, subst}
+use mathlib.Core.Path.{_≡_, ap, _∙_, subst}
 use native.Mathlib.Nat.{le-antisymm}
 use native.Mathlib.Omega.{arith}
 use Rattle.float.proofs.root_digits.Statement.{statement}
@@ -15,29 +14,36 @@ Inv-loop a steps left₀ root₀ rest₀ i₀ left root rest i = Digits a steps 
 abbrev μ-loop : tie.MeasureT-loop
 μ-loop a steps left₀ root₀ rest₀ i₀ left root rest i = steps - i
 
+-- the numbers of a turn are small
+small : (c : tie.In-loop Inv-loop μ-loop)
+    → (c .before .loop .rest ≤ 2 * c .before .loop .root) × (c .before .loop .root < 2 ^ 54) × (c .before .loop .left / 2 ^ 62 < 4)
+small c =
+    let d = c .before .loop .inv in
+    (d .within, root-fits d (c .loop-test .taken) (c .before .before .pre), pair-lt d (c .loop-test .taken))
+
 loop-holds : tie.Need-loop-holds Inv-loop μ-loop
 loop-holds c = start (c .args .a) (c .args .steps) (omega arith)
 
 mul-rest : tie.Need-mul-rest Inv-loop μ-loop
-mul-rest c = let d = c .before .loop .inv in let r = root-fits (c .before .before .args .a) (c .before .before .args .steps) (c .before .loop .left) (c .before .loop .root) (c .before .loop .rest) (c .before .loop .i) (c .before .loop .inv) (c .loop-test .taken) (c .before .before .pre) in let p = pair-lt (c .before .before .args .a) (c .before .before .args .steps) (c .before .loop .left) (c .before .loop .root) (c .before .loop .rest) (c .before .loop .i) (c .before .loop .inv) (c .loop-test .taken) in let w = d .within in omega arith
+mul-rest c = omega (arith, small c)
 
 add-rest : tie.Need-add-rest Inv-loop μ-loop
-add-rest c = let d = c .before .loop .inv in let r = root-fits (c .before .before .args .a) (c .before .before .args .steps) (c .before .loop .left) (c .before .loop .root) (c .before .loop .rest) (c .before .loop .i) (c .before .loop .inv) (c .loop-test .taken) (c .before .before .pre) in let p = pair-lt (c .before .before .args .a) (c .before .before .args .steps) (c .before .loop .left) (c .before .loop .root) (c .before .loop .rest) (c .before .loop .i) (c .before .loop .inv) (c .loop-test .taken) in let w = d .within in omega arith
+add-rest c = omega (arith, small c)
 
 mul-left : tie.Need-mul-left Inv-loop μ-loop
 mul-left c = omega arith
 
 mul-trial : tie.Need-mul-trial Inv-loop μ-loop
-mul-trial c = let d = c .before .loop .inv in let r = root-fits (c .before .before .args .a) (c .before .before .args .steps) (c .before .loop .left) (c .before .loop .root) (c .before .loop .rest) (c .before .loop .i) (c .before .loop .inv) (c .loop-test .taken) (c .before .before .pre) in let p = pair-lt (c .before .before .args .a) (c .before .before .args .steps) (c .before .loop .left) (c .before .loop .root) (c .before .loop .rest) (c .before .loop .i) (c .before .loop .inv) (c .loop-test .taken) in let w = d .within in omega arith
+mul-trial c = omega (arith, small c)
 
 add-trial : tie.Need-add-trial Inv-loop μ-loop
-add-trial c = let d = c .before .loop .inv in let r = root-fits (c .before .before .args .a) (c .before .before .args .steps) (c .before .loop .left) (c .before .loop .root) (c .before .loop .rest) (c .before .loop .i) (c .before .loop .inv) (c .loop-test .taken) (c .before .before .pre) in let p = pair-lt (c .before .before .args .a) (c .before .before .args .steps) (c .before .loop .left) (c .before .loop .root) (c .before .loop .rest) (c .before .loop .i) (c .before .loop .inv) (c .loop-test .taken) in let w = d .within in omega arith
+add-trial c = omega (arith, small c)
 
 mul-root : tie.Need-mul-root Inv-loop μ-loop
-mul-root c = let d = c .before .loop .inv in let r = root-fits (c .before .before .args .a) (c .before .before .args .steps) (c .before .loop .left) (c .before .loop .root) (c .before .loop .rest) (c .before .loop .i) (c .before .loop .inv) (c .loop-test .taken) (c .before .before .pre) in let p = pair-lt (c .before .before .args .a) (c .before .before .args .steps) (c .before .loop .left) (c .before .loop .root) (c .before .loop .rest) (c .before .loop .i) (c .before .loop .inv) (c .loop-test .taken) in let w = d .within in omega arith
+mul-root c = omega (arith, small c)
 
 add-root : tie.Need-add-root Inv-loop μ-loop
-add-root c = let r = root-fits (c .before .before .before .args .a) (c .before .before .before .args .steps) (c .before .before .loop .left) (c .before .before .loop .root) (c .before .before .loop .rest) (c .before .before .loop .i) (c .before .before .loop .inv) (c .before .loop-test .taken) (c .before .before .before .pre) in omega arith
+add-root c = omega (arith, small (c .before))
 
 add-i : tie.Need-add-i Inv-loop μ-loop
 add-i c = let p = c .before .before .before .pre in let t = c .before .loop-test .taken in omega arith
@@ -47,15 +53,13 @@ loop-less c = let t = c .before .loop-test .taken in omega arith
 
 loop-again : tie.Need-loop-again Inv-loop μ-loop
 loop-again c =
-    ⊎-elim
-    (λ w. rw (w .1, w .2) (step-one (c .before .before .before .args .a) (c .before .before .before .args .steps) (c .before .before .loop .left) (c .before .before .loop .root) (c .before .before .loop .rest) (c .before .before .loop .i) (c .before .before .loop .inv) (c .before .loop-test .taken) (w .0 .taken)))
-    (λ w. rw (w .1, w .2) (step-zero (c .before .before .before .args .a) (c .before .before .before .args .steps) (c .before .before .loop .left) (c .before .before .loop .root) (c .before .before .loop .rest) (c .before .before .loop .i) (c .before .before .loop .inv) (c .before .loop-test .taken) (w .0 .left)))
-    (c .if1 .came)
+    let d = c .before .before .loop .inv in
+    let m = c .before .loop-test .taken in
+    ⊎-elim (λ w. rw (w .1, w .2) (step-one d m (w .0 .taken))) (λ w. rw (w .1, w .2) (step-zero d m (w .0 .left))) (c .if1 .came)
 
 returns : tie.Need-returns Inv-loop μ-loop
 returns c =
     let d = c .before .loop .inv in
-    let u = d .upto in
     let e : c .before .loop .i ≡ c .before .before .args .steps = le-antisymm (d .upto) (c .loop-test .left) in
     record {
       square = d .square ∙ ap (λ (i : ℕ). c .before .before .args .a * 4 ^ i / 2 ^ 64) e;

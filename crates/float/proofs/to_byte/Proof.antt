@@ -1,34 +1,25 @@
--- `float::to_byte` meets its contract, by the laws of proofs/Cast.antt. Assumes nothing.
-use mathlib.Core.Path.{sym, subst, _∙_}
-use Prim.Native.Nat.{ℕ, _<_}
+-- `float::to_byte` meets its contract: a byte is a column held at 255. Assumes nothing.
+use Rattle.float.proofs.Cast.{cut-narrower}
 use native.Mathlib.Omega.{arith}
-use lib.Dec.{T}
-use lib.Ieee.{ofBits, neg}
-use lib.Ieee.Casts.{toUnsigned-lt}
-use Rattle.float.proofs.Cast.{cut-top, cut-fits, cut-mid, cut-low}
+use borrow.Author.Needs.{needs}
 use Rattle.float.proofs.to_byte.Statement.{statement}
 use Rattle.float.proofs.to_byte.Tie as tie
 
-returns : tie.Need-returns
-unfolding ofBits
-returns c = cut-top 8 (c .before .args .x) (c .if1 .taken)
-
-truncating-f32-to-u64-requires : tie.Need-truncating-f32-to-u64-requires
-unfolding ofBits neg
-truncating-f32-to-u64-requires c κs = (subst T (sym (c .if2 .taken)) tt, cut-fits 8 (c .before .before .args .x) (omega arith) (c .before .if1 .left) (c .if2 .taken))
+to-column-requires : tie.Need-to-column-requires
+to-column-requires c κs = search needs
 
 cast-result : tie.Need-cast-result
-unfolding ofBits neg
-cast-result c = record { fits = subst (λ (n : ℕ). n < 256) (sym (c .truncating-f32-to-u64 .ensures ∙ cut-mid 8 (c .before .before .before .args .x) (omega arith) (c .before .before .if1 .left) (c .before .if2 .taken))) (toUnsigned-lt 8 (c .before .before .before .args .x)) }
+cast-result c = search needs
+
+returns : tie.Need-returns
+returns c =
+    let e = c .before .to-column .ensures in
+    omega (arith, cut-narrower 8 13 (c .before .before .args .x) (omega arith))
 
 returns-2 : tie.Need-returns-2
-unfolding ofBits neg
-returns-2 c = c .truncating-f32-to-u64 .ensures ∙ cut-mid 8 (c .before .before .before .args .x) (omega arith) (c .before .before .if1 .left) (c .before .if2 .taken)
-
-returns-3 : tie.Need-returns-3
-unfolding ofBits neg
-returns-3 c = cut-low 8 (c .before .before .args .x) (c .if2 .left)
+returns-2 c =
+    let e = c .before .to-column .ensures in
+    omega (arith, cut-narrower 8 13 (c .before .before .args .x) (omega arith))
 
 pub to-byte-spec : {M : Type 1} → statement M
-to-byte-spec =
-    tie.close (tie.spec returns truncating-f32-to-u64-requires cast-result returns-2 returns-3)
+to-byte-spec = tie.close (tie.spec to-column-requires cast-result returns returns-2)

@@ -1,10 +1,8 @@
 -- `float::to_column` meets its contract, by the laws of proofs/Cast.antt. Assumes nothing.
 use mathlib.Core.Path.{sym, subst, _∙_}
-use Prim.Native.Nat.{ℕ, _<_}
 use native.Mathlib.Omega.{arith}
 use lib.Dec.{T}
 use lib.Ieee.{ofBits, neg}
-use lib.Ieee.Casts.{toUnsigned-lt}
 use Rattle.float.proofs.Cast.{cut-top, cut-fits, cut-mid, cut-low}
 use Rattle.float.proofs.to_column.Statement.{statement}
 use Rattle.float.proofs.to_column.Tie as tie

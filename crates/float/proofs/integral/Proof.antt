@@ -1,0 +1,49 @@
+-- `float::integral` meets its contract, by the laws of proofs/Whole.antt. Assumes nothing.
+use Rattle.float.proofs.Tests.{holds}
+use Rattle.float.proofs.Whole.{integral-big, integral-is, integral-other}
+use Prim.Native.Nat.{ℕ}
+use lib.Ieee.{binary32, round}
+use mathlib.Core.Path.{sym, ap, _∙_}
+use borrow.Author.Needs.{needs}
+use Rattle.float.proofs.integral.Statement.{statement}
+use Rattle.float.proofs.integral.Tie as tie
+
+is-finite-requires : tie.Need-is-finite-requires
+is-finite-requires c κs = search needs
+
+unpack32-requires : tie.Need-unpack32-requires
+unpack32-requires c κs = holds (sym (c .before .is-finite .ensures) ∙ c .if1 .taken)
+
+returns : tie.Need-returns
+returns c =
+    let s = c .before .before .before .before in
+    integral-big (c .before .unpack32 .ensures) (holds (s .good .0 .1)) (c .if2 .taken) (s .args .up)
+
+cut-whole-requires : tie.Need-cut-whole-requires
+cut-whole-requires c κs = search needs
+
+signed-whole-requires : tie.Need-signed-whole-requires
+signed-whole-requires c κs = search needs
+
+returns-2 : tie.Need-returns-2
+returns-2 c =
+    let u = c .before .before .before .unpack32 in
+    let s = c .before .before .before .before .before .before in
+    c .signed-whole .ensures
+    ∙ ap (λ (n : ℕ). round binary32 (u .result .negative) n 1) (c .before .cut-whole .ensures .0)
+    ∙ sym (integral-is (s .args .up) (u .ensures))
+
+returns-3 : tie.Need-returns-3
+returns-3 c = integral-other (c .before .before .args .up) (c .before .before .args .x) (sym (c .before .is-finite .ensures) ∙ c .if1 .left)
+
+pub integral-spec : {M : Type 1} → statement M
+integral-spec =
+    tie.close
+    (tie.spec
+    is-finite-requires
+    unpack32-requires
+    returns
+    cut-whole-requires
+    signed-whole-requires
+    returns-2
+    returns-3)

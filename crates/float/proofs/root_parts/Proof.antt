@@ -1,0 +1,51 @@
+-- `float::root_parts` meets its contract, by the law of proofs/Rooting.antt. Assumes nothing.
+use Rattle.float.proofs.Rooting.{root-parts}
+use lib.Dec.{lit≤}
+use lib.Pow.{pow-mono}
+use native.Mathlib.Nat.{lt-of-lt-of-le, le-trans}
+use native.Mathlib.Omega.{arith}
+use borrow.Author.Needs.{needs}
+use Rattle.float.proofs.root_parts.Statement.{statement}
+use Rattle.float.proofs.root_parts.Tie as tie
+
+add-align : tie.Need-add-align
+add-align c = search needs
+
+align-requires : tie.Need-align-requires
+align-requires c κs = let p = c .pre in (p .0, (lt-of-lt-of-le (p .1 .0) (le-trans (pow-mono (p .1 .1 .0)) (lit≤ tt)), omega arith))
+
+add-root-digits : tie.Need-add-root-digits
+add-root-digits c = search needs
+
+root-digits-requires : tie.Need-root-digits-requires
+root-digits-requires c κs = search needs
+
+round-root-requires : tie.Need-round-root-requires
+round-root-requires c κs = search needs
+
+add-t8 : tie.Need-add-t8
+add-t8 c = search needs
+
+sub-t9 : tie.Need-sub-t9
+sub-t9 c = search needs
+
+returns : tie.Need-returns
+returns c =
+    let a = c .before .before .before .before .args in
+    let p = c .before .before .before .before .pre in
+    let al = c .before .before .before .align .ensures in
+    let ro = c .before .before .root-digits .ensures in
+    rw (c .before .round-root .ensures) (root-parts (a .e) (a .keep) (a .bias) al ro (p .1 .0) (p .1 .1 .1 .1 .0) (p .1 .1 .1 .0) (p .1 .1 .1 .1 .1))
+
+pub root-parts-spec : {M : Type 1} → statement M
+root-parts-spec =
+    tie.close
+    (tie.spec
+    add-align
+    align-requires
+    add-root-digits
+    root-digits-requires
+    round-root-requires
+    add-t8
+    sub-t9
+    returns)
