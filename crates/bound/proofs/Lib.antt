@@ -10,3 +10,8 @@ pub mod Products
 pub mod Across
 pub mod Inside
 pub mod Span
+pub mod CellSum
+pub mod WindingSum
+pub mod RowSum
+pub mod Share
+pub mod Byte

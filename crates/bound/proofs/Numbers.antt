@@ -1,22 +1,26 @@
 -- Floats that are known: exactly, or up to a bound of their size. The constants, whole numbers, and the columns that a number lies between. Assumes nothing.
+use mathlib.Core.Path.{_≡_, refl, sym, ap}
 use mathlib.Core.List.{[], _∷_}
 use mathlib.Core.Bool.{Bool, true, false, not, cond}
-use Prim.Native.Nat.{ℕ, suc, _+_, _^_, _≤_}
+use Prim.Native.Nat.{ℕ, suc, _+_, _*_, _^_, _≤_, _<_}
 use native.Mathlib.Omega.{arith}
 use lib.Dec.{T, lit≤}
-use lib.Ieee.{Float, binary32, ofBits, ofFields, odd, fits, lt}
+use lib.Ieee.{Float, nan, inf, fin, binary32, up, down, neg, ofBits, ofFields, odd, fits, isNan, lt, le, eq}
 use lib.Ieee.Bits.{ofBits-fits}
-use lib.Ieee.Fits.{ofInt-fits}
+use lib.Ieee.Fits.{ofInt-fits, neg-fits, down-pos}
 use lib.Ieee.Scale.{finite}
 use lib.Count.{trailingZeros}
 use lib.IntN.{pos}
-use Rattle.fraction.specs.Fraction.{Fraction, _≤ᶠ_, _<ᶠ_, _≈ᶠ_, natᶠ, _/2^_, _+ᶠ_, Within}
-use Rattle.fraction.proofs.Linear.{at-le, at-lt, at-eq, le-at, lt-at, add-at, over, lit, lit≈, trans}
-use Rattle.fraction.proofs.Order.{of-eq, sym≈, trans≈, le-lt}
+use Rattle.fraction.specs.Whole.{sizeʷ}
+use Rattle.fraction.specs.Fraction.{Fraction, _≤ᶠ_, _<ᶠ_, _≈ᶠ_, natᶠ, _/2^_, _+ᶠ_, absᶠ, minᶠ, maxᶠ, Within}
+use Rattle.fraction.proofs.Clamp.{min-left, min-right, max-left, max-right}
+use Rattle.fraction.proofs.Linear.{at-le, at-lt, at-eq, le-at, lt-at, add-at, over, lit, lit<ᶠ, lit≈, trans}
+use Rattle.fraction.proofs.Order.{of-eq, of-lt, refl≈, sym≈, trans≈, le-lt, lt-le}
 use Rattle.fraction.proofs.Near.{within-weaken}
-use Rattle.rounding.specs.Value.{val}
-use Rattle.rounding.proofs.Compare.{lt-val, le-val, not-lt-val, not-le-val}
+use Rattle.rounding.specs.Value.{signed, signedᶠ, val}
+use Rattle.rounding.proofs.Compare.{lt-val, val-lt, le-val, eq-val, val-eq, not-lt-val, not-le-val}
 use Rattle.float.specs.Ops.{f0, f½, f1, f2}
+use Rattle.float.specs.Simple.{absOf, minOf, maxOf}
 use Rattle.float.specs.Whole.{columnOf, ofWhole}
 use Rattle.float.proofs.CastBelief.{ofWhole-exact, column-below}
 use Rattle.row.specs.Row.{ceilColumn}
@@ -82,23 +86,23 @@ module _ {X Y : Fraction} {x y : Float} (a : Exact X x) (b : Exact Y y) where
   pub lt-no : T (not (lt x y)) → Y ≤ᶠ X
   lt-no t = trans (of-eq (sym≈ (b .eq))) (trans (not-lt-val x y (a .fine) (b .fine) t) (of-eq (a .eq)))
 
-  pub le-yes : T (lib.Ieee.le x y) → X ≤ᶠ Y
+  pub le-yes : T (le x y) → X ≤ᶠ Y
   le-yes t = trans (of-eq (sym≈ (a .eq))) (trans (le-val x y (a .fine) (b .fine) t) (of-eq (b .eq)))
 
-  pub le-no : T (not (lib.Ieee.le x y)) → Y <ᶠ X
+  pub le-no : T (not (le x y)) → Y <ᶠ X
   le-no t = lt-cong (b .eq) (a .eq) (not-le-val x y (a .fine) (b .fine) t)
 
   pub lt-do : X <ᶠ Y → T (lt x y)
-  lt-do h = Rattle.rounding.proofs.Compare.val-lt x y (a .fine) (b .fine) (lt-cong (sym≈ (a .eq)) (sym≈ (b .eq)) h)
+  lt-do h = val-lt x y (a .fine) (b .fine) (lt-cong (sym≈ (a .eq)) (sym≈ (b .eq)) h)
 
-  pub eq-yes : T (lib.Ieee.eq x y) → X ≈ᶠ Y
-  eq-yes t = trans≈ (sym≈ (a .eq)) (trans≈ (Rattle.rounding.proofs.Compare.eq-val x y (a .fine) (b .fine) t) (b .eq))
+  pub eq-yes : T (eq x y) → X ≈ᶠ Y
+  eq-yes t = trans≈ (sym≈ (a .eq)) (trans≈ (eq-val x y (a .fine) (b .fine) t) (b .eq))
 
-  pub eq-do : X ≈ᶠ Y → T (lib.Ieee.eq x y)
-  eq-do h = Rattle.rounding.proofs.Compare.val-eq x y (a .fine) (b .fine) (trans≈ (a .eq) (trans≈ h (sym≈ (b .eq))))
+  pub eq-do : X ≈ᶠ Y → T (eq x y)
+  eq-do h = val-eq x y (a .fine) (b .fine) (trans≈ (a .eq) (trans≈ h (sym≈ (b .eq))))
 
 pub itself : (x : Float) → T (finite x) → T (fits binary32 x) → Exact (val x) x
-itself x p q = record { fine = p; held = q; eq = Rattle.fraction.proofs.Order.refl≈ (val x) }
+itself x p q = record { fine = p; held = q; eq = refl≈ (val x) }
 
 pub num-itself : {x : Float} {b : Fraction} → Num x b → Exact (val x) x
 num-itself {x} h = itself x (h .fine) (h .held)
@@ -106,15 +110,15 @@ num-itself {x} h = itself x (h .fine) (h .held)
 -- ---- the column that a number is in, and the first that is not below it
 pub column-is : (x : Float) → T (finite x) → natᶠ 0 ≤ᶠ val x → val x <ᶠ natᶠ 8192 → (natᶠ (columnOf x) ≤ᶠ val x) × (val x <ᶠ natᶠ (suc (columnOf x)))
 column-is x p h k =
-    let c = column-below x p h (Rattle.fraction.proofs.Order.lt-le k (lit tt)) in
-    (c .0, Rattle.fraction.proofs.Order.lt-le (c .1) (record { le = omega arith }))
+    let c = column-below x p h (lt-le k (lit tt)) in
+    (c .0, lt-le (c .1) (record { le = omega arith }))
 
 pub ceil-is : (x : Float) → T (finite x) → T (fits binary32 x) → natᶠ 0 ≤ᶠ val x → val x ≤ᶠ natᶠ 4096 → (val x ≤ᶠ natᶠ (ceilColumn x)) × (natᶠ (ceilColumn x) <ᶠ val x +ᶠ natᶠ 1)
 unfolding ceilColumn
 ceil-is x p q h k = go (lt (ofWhole (columnOf x)) x) (lt-yes F (itself x p q)) (lt-no F (itself x p q))
   where
     W : (natᶠ (columnOf x) ≤ᶠ val x) × (val x <ᶠ natᶠ (suc (columnOf x)))
-    W = column-is x p h (le-lt k (Rattle.fraction.proofs.Linear.lit<ᶠ tt))
+    W = column-is x p h (le-lt k (lit<ᶠ tt))
 
     F : Exact (natᶠ (columnOf x)) (ofWhole (columnOf x))
     F = whole-is (columnOf x) (small (columnOf x) (trans (W .0) k))
@@ -129,3 +133,42 @@ ceil-is x p q h k = go (lt (ofWhole (columnOf x)) x) (lt-yes F (itself x p q)) (
       lt-at N C (add-at N X O) (omega (arith, A .is, C .is, O .is, at-lt N A X n (f tt))),
     ))
     go false f g = over (val x ∷ natᶠ (columnOf x) ∷ natᶠ 1 ∷ []) (λ N n X A O. (le-at N X A n (omega (arith, at-le N X A (g tt))), lt-at N A (add-at N X O) (omega (arith, n, O .is, at-le N A X (W .0)))))
+
+-- ---- the size, the lesser and the greater of floats that are known exactly
+pub size-signed : (s : Bool) (a : ℕ) → sizeʷ (signed s a) ≡ a
+size-signed true a = omega arith
+size-signed false a = omega arith
+
+size-is : (s : Bool) (a d : ℕ) (D : 0 < d) → signedᶠ false a d D ≈ᶠ absᶠ (signedᶠ s a d D)
+unfolding absᶠ
+size-is s a d D = record { eq = ap (λ (n : ℕ). n * d + 0 * d) (sym (size-signed s a)) }
+
+pub abs-is : (x : Float) → T (finite x) → T (fits binary32 x) → Exact (absᶠ (val x)) (absOf x)
+unfolding absOf val
+abs-is nan p q = absurd p
+abs-is (inf s) p q = absurd p
+abs-is (fin false m e) p q = record { fine = tt; held = q; eq = size-is false (m * up e) (down e) (down-pos e) }
+abs-is (fin true m e) p q = record { fine = tt; held = (unfold neg in neg-fits binary32 (fin true m e) q); eq = size-is true (m * up e) (down e) (down-pos e) }
+
+number : (x : Float) → T (finite x) → isNan x ≡ false
+unfolding isNan
+number nan p = absurd p
+number (inf s) p = absurd p
+number (fin s m e) p = refl
+
+module _ {A B : Fraction} {a b : Float} (p : Exact A a) (q : Exact B b) where
+  pub min-is : Exact (minᶠ A B) (minOf a b)
+  unfolding minOf
+  min-is = rw (number a (p .fine)) (go (lt b a) (lt-yes q p) (lt-no q p))
+    where
+      go : (x : Bool) → (T x → B <ᶠ A) → (T (not x) → A ≤ᶠ B) → Exact (minᶠ A B) (cond x b a)
+      go true f g = exact-same (sym≈ (min-right A B (of-lt (f tt)))) q
+      go false f g = exact-same (sym≈ (min-left A B (g tt))) p
+
+  pub max-is : Exact (maxᶠ A B) (maxOf a b)
+  unfolding maxOf
+  max-is = rw (number a (p .fine)) (go (lt a b) (lt-yes p q) (lt-no p q))
+    where
+      go : (x : Bool) → (T x → A <ᶠ B) → (T (not x) → B ≤ᶠ A) → Exact (maxᶠ A B) (cond x b a)
+      go true f g = exact-same (sym≈ (max-right A B (of-lt (f tt)))) q
+      go false f g = exact-same (sym≈ (max-left A B (g tt))) p
