@@ -15,3 +15,6 @@ pub mod WindingSum
 pub mod RowSum
 pub mod Share
 pub mod Byte
+pub mod Edges
+pub mod Active
+pub mod Place

@@ -7,3 +7,4 @@ pub mod Mean
 pub mod Cells
 pub mod Part
 pub mod Fold
+pub mod Crosses
