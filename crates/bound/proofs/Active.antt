@@ -159,11 +159,11 @@ bool-same false false f g = refl
 
 -- ---- an edge from its upper end at height A to its lower at B
 module _ (h row : ℕ) (xa ya xb yb d : Float) (A B : Fraction) (H : h ≤ 4096) (l : row < h) (a : Exact A ya) (b : Exact B yb) (o : A <ᶠ B) where
-  abbrev edge : Edge
+  abbrev pub edge : Edge
   edge = record { x = xa; y = ya; bottom = yb; slope = (xb ⊖ xa) ⊘ (yb ⊖ ya); down = d }
 
   -- the engine keeps it, or it does not reach the rows of the mask
-  kept : (P : List Edge → Type 0) → (natᶠ 0 <ᶠ B → A <ᶠ natᶠ h → P (edge ∷ [])) → ((A <ᶠ natᶠ (suc row) → natᶠ row <ᶠ B → ⊥) → P []) → P (slopedOf h xa ya xb yb d)
+  pub kept : (P : List Edge → Type 0) → (natᶠ 0 <ᶠ B → A <ᶠ natᶠ h → P (edge ∷ [])) → ((A <ᶠ natᶠ (suc row) → natᶠ row <ᶠ B → ⊥) → P []) → P (slopedOf h xa ya xb yb d)
   unfolding slopedOf
   kept P on off = go (le yb f0) (le-yes b zero-is) (le-no b zero-is) (le (ofWhole h) ya) (le-yes high a) (le-no high a)
     where

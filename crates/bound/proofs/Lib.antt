@@ -18,3 +18,4 @@ pub mod Byte
 pub mod Edges
 pub mod Active
 pub mod Place
+pub mod Piece
