@@ -2,7 +2,7 @@
 use mathlib.Core.Path.{_≡_, refl, sym, ap, _∙_}
 use mathlib.Core.List.{List, [], _∷_, _++_, map}
 use mathlib.Core.Bool.{Bool, true, false, cond, _&&_, _||_}
-use Prim.Native.Nat.{ℕ, zero, suc, _+_, _≤_}
+use Prim.Native.Nat.{ℕ, zero, suc, _≤_}
 use native.Mathlib.Omega.{arith}
 use lib.Dec.{T, eqb, eqb→eq}
 use lib.ListN.{length, length-append}
@@ -18,7 +18,7 @@ use Rattle.float.specs.Ops.{_⊖_, _⊘_, f0, f1, f-1}
 use Rattle.float.specs.Whole.{ofWhole}
 use Rattle.edge.specs.declared.Edge.{Edge}
 use Rattle.edge.specs.Edges.{coordinateOf, slopedOf, edgeOf, walkOf, lastOf, contourOf, edgesOf, startRow, startingIn, reachingBelow, activeEdges}
-use Rattle.bound.proofs.Entries.{pick, plus-none, none-plus}
+use Rattle.bound.proofs.Entries.{pick, sumOver, plus-none, none-plus}
 
 pub record WordEdge : Type 0 where
   pub «from» : Point
@@ -259,31 +259,27 @@ every-active h (suc row) P rs k =
     (every-sift P (starts h (suc row)) rs (every-map (λ r. T (isActive h (suc row) r) → P r) (λ r. T (starts h (suc row) r) → P r) rs (λ r f t. f (from-start (suc row) (floatOf h r) (float-short h r) t)) k))
 
 -- ---- sums
-abbrev pub tot : (WordEdge → Fraction) → List WordEdge → Fraction
-tot x [] = natᶠ 0
-tot x (r ∷ rs) = x r +ᶠ tot x rs
+sum-append : (x : WordEdge → Fraction) (l m : List WordEdge) → sumOver x (l ++ m) ≈ᶠ sumOver x l +ᶠ sumOver x m
+sum-append x [] m = over (natᶠ 0 ∷ sumOver x m ∷ []) (λ N n O M. eq-at N M (add-at N O M) n (omega (arith, O .is)))
+sum-append x (r ∷ l) m = let i = sum-append x l m in
+    over (x r ∷ sumOver x (l ++ m) ∷ sumOver x l ∷ sumOver x m ∷ []) (λ N n X S A B. eq-at N (add-at N X S) (add-at N (add-at N X A) B) n (omega (arith, at-eq N S (add-at N A B) i)))
 
-tot-append : (x : WordEdge → Fraction) (l m : List WordEdge) → tot x (l ++ m) ≈ᶠ tot x l +ᶠ tot x m
-tot-append x [] m = over (natᶠ 0 ∷ tot x m ∷ []) (λ N n O M. eq-at N M (add-at N O M) n (omega (arith, O .is)))
-tot-append x (r ∷ l) m = let i = tot-append x l m in
-    over (x r ∷ tot x (l ++ m) ∷ tot x l ∷ tot x m ∷ []) (λ N n X S A B. eq-at N (add-at N X S) (add-at N (add-at N X A) B) n (omega (arith, at-eq N S (add-at N A B) i)))
-
-tot-sift : (x : WordEdge → Fraction) (t : WordEdge → Bool) (rs : List WordEdge) → tot x (sift t rs) ≈ᶠ tot (λ r. pick (t r) (x r)) rs
-tot-sift x t [] = refl≈ (natᶠ 0)
-tot-sift x t (r ∷ rs) = go (t r) (tot-sift x t rs)
+sum-sift : (x : WordEdge → Fraction) (t : WordEdge → Bool) (rs : List WordEdge) → sumOver x (sift t rs) ≈ᶠ sumOver (λ r. pick (t r) (x r)) rs
+sum-sift x t [] = refl≈ (natᶠ 0)
+sum-sift x t (r ∷ rs) = go (t r) (sum-sift x t rs)
   where
-    go : (b : Bool) → tot x (sift t rs) ≈ᶠ tot (λ r. pick (t r) (x r)) rs → tot x (cond b (r ∷ sift t rs) (sift t rs)) ≈ᶠ pick b (x r) +ᶠ tot (λ r. pick (t r) (x r)) rs
+    go : (b : Bool) → sumOver x (sift t rs) ≈ᶠ sumOver (λ r. pick (t r) (x r)) rs → sumOver x (cond b (r ∷ sift t rs) (sift t rs)) ≈ᶠ pick b (x r) +ᶠ sumOver (λ r. pick (t r) (x r)) rs
     go true h = cong-add (refl≈ (x r)) h
-    go false h = over (natᶠ 0 ∷ tot x (sift t rs) ∷ tot (λ r. pick (t r) (x r)) rs ∷ []) (λ N n O A B. eq-at N A (add-at N O B) n (omega (arith, O .is, at-eq N A B h)))
+    go false h = over (natᶠ 0 ∷ sumOver x (sift t rs) ∷ sumOver (λ r. pick (t r) (x r)) rs ∷ []) (λ N n O A B. eq-at N A (add-at N O B) n (omega (arith, O .is, at-eq N A B h)))
 
-pub tot-cong : (x y : WordEdge → Fraction) (rs : List WordEdge) → Every (λ r. x r ≈ᶠ y r) rs → tot x rs ≈ᶠ tot y rs
-tot-cong x y [] h = refl≈ (natᶠ 0)
-tot-cong x y (r ∷ rs) h = cong-add (h .0) (tot-cong x y rs (h .1))
+pub sum-cong : (x y : WordEdge → Fraction) (rs : List WordEdge) → Every (λ r. x r ≈ᶠ y r) rs → sumOver x rs ≈ᶠ sumOver y rs
+sum-cong x y [] h = refl≈ (natᶠ 0)
+sum-cong x y (r ∷ rs) h = cong-add (h .0) (sum-cong x y rs (h .1))
 
-tot-add : (x y : WordEdge → Fraction) (rs : List WordEdge) → tot x rs +ᶠ tot y rs ≈ᶠ tot (λ r. x r +ᶠ y r) rs
-tot-add x y [] = over (natᶠ 0 ∷ []) (λ N n O. eq-at N (add-at N O O) O n (omega (arith, O .is)))
-tot-add x y (r ∷ rs) = let i = tot-add x y rs in
-    over (x r ∷ y r ∷ tot x rs ∷ tot y rs ∷ tot (λ r. x r +ᶠ y r) rs ∷ []) (λ N n X Y A B C. eq-at N (add-at N (add-at N X A) (add-at N Y B)) (add-at N (add-at N X Y) C) n (omega (arith, at-eq N (add-at N A B) C i)))
+sum-add : (x y : WordEdge → Fraction) (rs : List WordEdge) → sumOver x rs +ᶠ sumOver y rs ≈ᶠ sumOver (λ r. x r +ᶠ y r) rs
+sum-add x y [] = over (natᶠ 0 ∷ []) (λ N n O. eq-at N (add-at N O O) O n (omega (arith, O .is)))
+sum-add x y (r ∷ rs) = let i = sum-add x y rs in
+    over (x r ∷ y r ∷ sumOver x rs ∷ sumOver y rs ∷ sumOver (λ r. x r +ᶠ y r) rs ∷ []) (λ N n X Y A B C. eq-at N (add-at N (add-at N X A) (add-at N Y B)) (add-at N (add-at N X Y) C) n (omega (arith, at-eq N (add-at N A B) C i)))
 
 pub every-all : (P : WordEdge → Type 0) (rs : List WordEdge) → ((r : WordEdge) → P r) → Every P rs
 every-all P [] f = tt
@@ -315,13 +311,13 @@ apart row (e ∷ []) x s = go (activeIn row e) (joined row e) (lt (ofWhole (suc 
     go false f b true g = none-plus x
     go false f b false g = plus-none (natᶠ 0)
 
-pub active-tot : (h row : ℕ) (x : WordEdge → Fraction) (rs : List WordEdge) → tot x (actives h rs row) ≈ᶠ tot (λ r. pick (isActive h row r) (x r)) rs
-active-tot h zero x rs = tot-sift x (starts h 0) rs
-active-tot h (suc row) x rs =
-    trans≈ (tot-append x (sift (reaches h (suc row)) (actives h rs row)) (sift (starts h (suc row)) rs))
-    (trans≈ (cong-add (trans≈ (tot-sift x (reaches h (suc row)) (actives h rs row)) (active-tot h row (λ r. pick (reaches h (suc row) r) (x r)) rs)) (tot-sift x (starts h (suc row)) rs))
-    (trans≈ (tot-add (λ r. pick (isActive h row r) (pick (reaches h (suc row) r) (x r))) (λ r. pick (starts h (suc row) r) (x r)) rs)
-    (tot-cong (λ r. pick (isActive h row r) (pick (reaches h (suc row) r) (x r)) +ᶠ pick (starts h (suc row) r) (x r)) (λ r. pick (isActive h (suc row) r) (x r)) rs (every-all (λ r. pick (isActive h row r) (pick (reaches h (suc row) r) (x r)) +ᶠ pick (starts h (suc row) r) (x r) ≈ᶠ pick (isActive h (suc row) r) (x r)) rs (λ r. apart row (floatOf h r) (x r) (float-short h r))))))
+pub active-sum : (h row : ℕ) (x : WordEdge → Fraction) (rs : List WordEdge) → sumOver x (actives h rs row) ≈ᶠ sumOver (λ r. pick (isActive h row r) (x r)) rs
+active-sum h zero x rs = sum-sift x (starts h 0) rs
+active-sum h (suc row) x rs =
+    trans≈ (sum-append x (sift (reaches h (suc row)) (actives h rs row)) (sift (starts h (suc row)) rs))
+    (trans≈ (cong-add (trans≈ (sum-sift x (reaches h (suc row)) (actives h rs row)) (active-sum h row (λ r. pick (reaches h (suc row) r) (x r)) rs)) (sum-sift x (starts h (suc row)) rs))
+    (trans≈ (sum-add (λ r. pick (isActive h row r) (pick (reaches h (suc row) r) (x r))) (λ r. pick (starts h (suc row) r) (x r)) rs)
+    (sum-cong (λ r. pick (isActive h row r) (pick (reaches h (suc row) r) (x r)) +ᶠ pick (starts h (suc row) r) (x r)) (λ r. pick (isActive h (suc row) r) (x r)) rs (every-all (λ r. pick (isActive h row r) (pick (reaches h (suc row) r) (x r)) +ᶠ pick (starts h (suc row) r) (x r) ≈ᶠ pick (isActive h (suc row) r) (x r)) rs (λ r. apart row (floatOf h r) (x r) (float-short h r))))))
 
 -- ---- the limits: where a group's points are near, so are its edges' ends, and there is an edge to each point
 pub record NearEdge (r : WordEdge) : Type 0 where

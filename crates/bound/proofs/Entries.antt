@@ -83,6 +83,23 @@ prefix l c = tally worth (before (suc c)) l
 unfoldable pub total : List Entry → Fraction
 total l = tally size anywhere l
 
+-- ---- over a list of anything: how many a test takes, and the sum of a worth
+abbrev pub number : {A : Type 0} → (A → Bool) → List A → ℕ
+number t [] = 0
+number t (x ∷ l) = cond (t x) 1 0 + number t l
+
+abbrev pub sumOver : {A : Type 0} → (A → Fraction) → List A → Fraction
+sumOver g [] = natᶠ 0
+sumOver g (x ∷ l) = g x +ᶠ sumOver g l
+
+pub number-le : {A : Type 0} (t : A → Bool) (l : List A) → number t l ≤ length l
+number-le t [] = omega arith
+number-le t (x ∷ l) = go (t x) (number-le t l)
+  where
+    go : (b : Bool) → number t l ≤ length l → cond b 1 0 + number t l ≤ suc (length l)
+    go true h = omega arith
+    go false h = omega arith
+
 -- ---- laws of tallies
 pub plus-none : (x : Fraction) → x +ᶠ natᶠ 0 ≈ᶠ x
 plus-none x = over (x ∷ natᶠ 0 ∷ []) (λ N n X O. eq-at N (add-at N X O) X n (omega (arith, O .is)))

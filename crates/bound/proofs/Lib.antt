@@ -19,3 +19,4 @@ pub mod Edges
 pub mod Active
 pub mod Place
 pub mod Piece
+pub mod GroupRow

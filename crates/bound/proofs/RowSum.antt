@@ -16,7 +16,7 @@ use Rattle.fraction.proofs.Near.{near-refl, near-weaken, near-same, near-trans,
 use Rattle.rounding.specs.Value.{val}
 use Rattle.rounding.proofs.Round.{near-to}
 use Rattle.float.specs.Ops.{f0}
-use Rattle.bound.proofs.Entries.{Entry, Fine, From, pick, tally, count, worth, size, here, before, anywhere, tally-within, tally-append, tally-wider, count-append, fine-append, from-none, area}
+use Rattle.bound.proofs.Entries.{Entry, Fine, From, pick, tally, count, worth, size, here, before, anywhere, tally-within, tally-append, tally-wider, count-append, fine-append, from-none, area, number, number-le, sumOver}
 use Rattle.bound.proofs.Adds.{edgeError, mass, windingError}
 use Rattle.bound.proofs.WindingSum.{wind, winding-near}
 
@@ -27,18 +27,10 @@ picked true k x = over (x ∷ natᶠ k *ᶠ x ∷ natᶠ (suc k) *ᶠ x ∷ nat�
 picked false k x = over (natᶠ 0 ∷ natᶠ k *ᶠ x ∷ natᶠ (0 + k) *ᶠ x ∷ []) (λ N n O K R. eq-at N (add-at N O K) R n
     (omega (arith, O .is, at-eq N K R (subst (λ (z : ℕ). natᶠ k *ᶠ x ≈ᶠ natᶠ z *ᶠ x) (omega arith) (refl≈ (natᶠ k *ᶠ x))))))
 
--- all edges' entries; how many edges count; the sum of their parts
+-- all edges' entries
 abbrev pub flat : {E : Type 0} → (E → List Entry) → List E → List Entry
 flat entries [] = []
 flat entries (e ∷ es) = entries e ++ flat entries es
-
-abbrev pub number : {E : Type 0} → (E → Bool) → List E → ℕ
-number counts [] = 0
-number counts (e ∷ es) = cond (counts e) 1 0 + number counts es
-
-abbrev pub total : {E : Type 0} → (E → Fraction) → List E → Fraction
-total exact [] = natᶠ 0
-total exact (e ∷ es) = exact e +ᶠ total exact es
 
 module _ {E : Type 0} (entries : E → List Entry) (counts : E → Bool) (exact : E → Fraction) (n : ℕ) where
   -- what is asked of an edge, for the cells left of n: T, N, how far it is off, and Z where it does not count
@@ -77,25 +69,17 @@ module _ {E : Type 0} (entries : E → List Entry) (counts : E → Bool) (exact 
   all-twice (e ∷ es) g i = omega (arith, count-append (here i) (entries e) (flat entries es), g .0 .twice i, all-twice es (g .1) i)
 
   all-mass : (es : List E) → All es → tally size (before n) (flat entries es) ≤ᶠ natᶠ (number counts es) *ᶠ mass
-  all-mass [] g = of-eq (sym≈ (zero-mul (mass)))
+  all-mass [] g = of-eq (sym≈ (zero-mul mass))
   all-mass (e ∷ es) g =
-      trans (of-eq (tally-append size (before n) (entries e) (flat entries es))) (trans (add-mono (weighs e (g .0)) (all-mass es (g .1))) (of-eq (picked (counts e) (number counts es) (mass))))
+      trans (of-eq (tally-append size (before n) (entries e) (flat entries es))) (trans (add-mono (weighs e (g .0)) (all-mass es (g .1))) (of-eq (picked (counts e) (number counts es) mass)))
 
-  all-near : (es : List E) → All es → Near (tally worth (before n) (flat entries es)) (total exact es) (natᶠ (number counts es) *ᶠ edgeError)
-  all-near [] g = near-weaken (near-refl (natᶠ 0)) (of-eq (sym≈ (zero-mul (edgeError))))
-  all-near (e ∷ es) g = near-same (sym≈ (tally-append worth (before n) (entries e) (flat entries es))) (near-weaken (near-add (strays e (g .0)) (all-near es (g .1))) (of-eq (picked (counts e) (number counts es) (edgeError))))
-
-  number-le : (es : List E) → number counts es ≤ length es
-  number-le [] = omega arith
-  number-le (e ∷ es) = go (counts e) (number-le es)
-    where
-      go : (b : Bool) → number counts es ≤ length es → cond b 1 0 + number counts es ≤ suc (length es)
-      go true h = omega arith
-      go false h = omega arith
+  all-near : (es : List E) → All es → Near (tally worth (before n) (flat entries es)) (sumOver exact es) (natᶠ (number counts es) *ᶠ edgeError)
+  all-near [] g = near-weaken (near-refl (natᶠ 0)) (of-eq (sym≈ (zero-mul edgeError)))
+  all-near (e ∷ es) g = near-same (sym≈ (tally-append worth (before n) (entries e) (flat entries es))) (near-weaken (near-add (strays e (g .0)) (all-near es (g .1))) (of-eq (picked (counts e) (number counts es) edgeError)))
 
   -- ---- THE ROW: k edges that count, each off by 5 / 2 ^ 11 at most, and the two sums
   pub row-near : (es : List E) → All es → length es ≤ 2048 → n ≤ 4096 → T (finite (wind (λ i. area i f0 (flat entries es)) n)) × T (fits binary32 (wind (λ i. area i f0 (flat entries es)) n))
-      × Near (val (wind (λ i. area i f0 (flat entries es)) n)) (total exact es) (natᶠ (number counts es) *ᶠ windingError)
+      × Near (val (wind (λ i. area i f0 (flat entries es)) n)) (sumOver exact es) (natᶠ (number counts es) *ᶠ windingError)
       × Within (val (wind (λ i. area i f0 (flat entries es)) n)) (natᶠ (number counts es) *ᶠ natᶠ 2)
   row-near es g k l = (s .0, s .1, near-weaken (near-trans (s .2) (all-near es g)) sum, within-weaken (within-near (s .2) (tally-within (before n) (flat entries es))) most)
     where
@@ -103,7 +87,7 @@ module _ {E : Type 0} (entries : E → List Entry) (counts : E → Bool) (exact 
       m = all-mass es g
 
       top : tally size (before n) (flat entries es) ≤ᶠ natᶠ (2 ^ 20)
-      top = trans m (trans (mul-mono-right {y = natᶠ 2048} (lit tt) (nat-le (omega (arith, number-le es, k)))) (unfold _*ᶠ_ in lit tt))
+      top = trans m (trans (mul-mono-right {y = natᶠ 2048} (lit tt) (nat-le (omega (arith, number-le counts es, k)))) (unfold _*ᶠ_ in lit tt))
 
       s : T (finite (wind (λ i. area i f0 (flat entries es)) n)) × T (fits binary32 (wind (λ i. area i f0 (flat entries es)) n)) × Near (val (wind (λ i. area i f0 (flat entries es)) n)) (tally worth (before n) (flat entries es)) (1 /2^ 10 *ᶠ tally size (before n) (flat entries es))
       s = winding-near (flat entries es) (all-fine es g) (λ i. omega (arith, all-twice es g i, k)) n l top
@@ -114,11 +98,11 @@ module _ {E : Type 0} (entries : E → List Entry) (counts : E → Bool) (exact 
             arith,
             at-le N M A m,
             scale-at N (1 /2^ 10) M D,
-            scale-at N (mass) K A',
-            scale-at N (edgeError) K B',
+            scale-at N mass K A',
+            scale-at N edgeError K B',
             scale-at N (windingError) K C',
-            at-eq N A A' (mul-comm (natᶠ (number counts es)) (mass)),
-            at-eq N B B' (mul-comm (natᶠ (number counts es)) (edgeError)),
+            at-eq N A A' (mul-comm (natᶠ (number counts es)) mass),
+            at-eq N B B' (mul-comm (natᶠ (number counts es)) edgeError),
             at-eq N C C' (mul-comm (natᶠ (number counts es)) (windingError)),
           )))
 
@@ -130,8 +114,8 @@ module _ {E : Type 0} (entries : E → List Entry) (counts : E → Bool) (exact 
             at-le N O K (nat-le {m = 0} {n = number counts es} (omega arith)),
             at-le N M A m,
             scale-at N (1 /2^ 10) M D,
-            scale-at N (mass) K A',
+            scale-at N mass K A',
             scale-at N (natᶠ 2) K C',
-            at-eq N A A' (mul-comm (natᶠ (number counts es)) (mass)),
+            at-eq N A A' (mul-comm (natᶠ (number counts es)) mass),
             at-eq N C C' (mul-comm (natᶠ (number counts es)) (natᶠ 2)),
           )))
