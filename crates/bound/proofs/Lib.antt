@@ -20,3 +20,5 @@ pub mod Active
 pub mod Place
 pub mod Piece
 pub mod GroupRow
+pub mod Drawing
+pub mod Close

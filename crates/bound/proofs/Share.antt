@@ -32,7 +32,7 @@ use Rattle.bound.proofs.Numbers.{Exact, one-is, two-is, lt-yes, lt-no, 
 abbrev pub shareBy : Bool → Fraction → Fraction
 shareBy evenOdd w = cond evenOdd (evenOddShare w) (nonZeroShare w)
 
-near-nonneg : {x y e : Fraction} → Near x y e → natᶠ 0 ≤ᶠ e
+pub near-nonneg : {x y e : Fraction} → Near x y e → natᶠ 0 ≤ᶠ e
 near-nonneg {x} {y} {e} h = over (x ∷ y ∷ e ∷ natᶠ 0 ∷ []) (λ N n X Y E O. le-at N O E n (omega (arith, O .is, at-le N Y (add-at N X E) (h .lo), at-le N X (add-at N Y E) (h .hi))))
 
 -- it changes by no more than the winding, and is from 0 to 1
