@@ -8,3 +8,4 @@ pub mod Cells
 pub mod Part
 pub mod Fold
 pub mod Crosses
+pub mod Belief

@@ -110,7 +110,7 @@ share-near-one a b c r {d = d} p l h k = let w = bottom b r -ᶠ top a r in
     near-weaken (share-near a b c r l h k) (trans (of-eq (mul-comm w d)) (trans (mul-mono p (height-le a b r)) (of-eq (mul-one d))))
 
 -- ---- the crossing: at the ends, and between two heights
-slope-of : ExactPoint → ExactPoint → Fraction
+pub slope-of : ExactPoint → ExactPoint → Fraction
 slope-of a b = (b .x -ᶠ a .x) /ᶠ (b .y -ᶠ a .y)
 
 crossing-is : (a b : ExactPoint) (h : Fraction) → crossing a b h ≈ᶠ a .x +ᶠ (h -ᶠ a .y) *ᶠ slope-of a b
@@ -129,7 +129,7 @@ crossing-end a b l = trans≈ (crossing-is a b (b .y)) (trans≈ (cong-add (refl
     (over (a .x ∷ b .x ∷ []) (λ N n A B. eq-at N (add-at N A (sub-at N B A)) B n (omega arith))))
 
 -- from one height to another, by the slope
-crossing-step : (a b : ExactPoint) (h k : Fraction) → crossing a b k ≈ᶠ crossing a b h +ᶠ (k -ᶠ h) *ᶠ slope-of a b
+pub crossing-step : (a b : ExactPoint) (h k : Fraction) → crossing a b k ≈ᶠ crossing a b h +ᶠ (k -ᶠ h) *ᶠ slope-of a b
 crossing-step a b h k =
     let ρ = a .x ∷ a .y ∷ slope-of a b ∷ h ∷ k ∷ [] in
     let R = reps ρ in
