@@ -126,11 +126,11 @@ unfolding sumOfShares
 sum-nonneg [] c row = lit tt
 sum-nonneg (g ∷ gs) c row = over (groupShare g c row ∷ sumOfShares gs c row ∷ natᶠ 0 ∷ []) (λ N n A B O. le-at N O (add-at N A B) n (omega (arith, O .is, at-le N O A (group-share-nonneg g c row), at-le N O B (sum-nonneg gs c row))))
 
-pub drawn-share-range : (gs : List Group) (c row : ℕ) → (natᶠ 0 ≤ᶠ drawnShare gs c row) × (drawnShare gs c row ≤ᶠ natᶠ 1)
-drawn-share-range gs c row = (
-  over (sumOfShares gs c row ∷ natᶠ 0 ∷ natᶠ 1 ∷ []) (λ N n A O I. le-at N O (min-at N n A I) n (omega (arith, O .is, I .is, at-le N O A (sum-nonneg gs c row)))),
-  min-le-right (sumOfShares gs c row) (natᶠ 1),
-)
+pub drawn-share-at-most-one : (gs : List Group) (c row : ℕ) → drawnShare gs c row ≤ᶠ natᶠ 1
+drawn-share-at-most-one gs c row = min-le-right (sumOfShares gs c row) (natᶠ 1)
+
+pub drawn-share-nonneg : (gs : List Group) (c row : ℕ) → natᶠ 0 ≤ᶠ drawnShare gs c row
+drawn-share-nonneg gs c row = over (sumOfShares gs c row ∷ natᶠ 0 ∷ natᶠ 1 ∷ []) (λ N n A O I. le-at N O (min-at N n A I) n (omega (arith, O .is, I .is, at-le N O A (sum-nonneg gs c row))))
 
 -- ---- the allowed difference: 1 for each edge of any group that crosses the row, and a half for each group
 abbrev pub allEdges : List Group → List ExactEdge

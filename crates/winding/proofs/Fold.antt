@@ -54,6 +54,15 @@ module _ (w : Fraction) where
   small : sizeʷ (w .num) % (2 * w .den) < 2 * w .den
   small = mod-lt (sizeʷ (w .num)) (mul-pos (zero-lt-suc 1) (w .pos))
 
+  -- the rest is the distance to the even number below, 2 less the rest that to the one above
+  rest-is : modulo2 w ≈ᶠ off w (turns w)
+  unfolding even-at modulo2
+  rest-is = eq-at (w .den) (self (modulo2 w)) (off-at (turns w)) (w .pos) (omega (arith, split))
+
+  over-is : natᶠ 2 -ᶠ modulo2 w ≈ᶠ off w (suc (turns w))
+  unfolding even-at modulo2
+  over-is = eq-at (w .den) (sub-at (w .den) (even-at 1) (self (modulo2 w))) (off-at (suc (turns w))) (w .pos) (omega (arith, split, small))
+
   -- up to 2 k below |w|, the rest is no more than the distance
   rest-le : (k : ℕ) → k ≤ turns w → modulo2 w ≤ᶠ off w k
   unfolding even-at modulo2
@@ -63,14 +72,6 @@ module _ (w : Fraction) where
   over-le : (k : ℕ) → turns w < k → natᶠ 2 -ᶠ modulo2 w ≤ᶠ off w k
   unfolding even-at modulo2
   over-le k l = le-at (w .den) (sub-at (w .den) (even-at 1) (self (modulo2 w))) (off-at k) (w .pos) (omega (arith, split, small, mul-le-mul-right (w .den) l))
-
-  rest-is : modulo2 w ≈ᶠ off w (turns w)
-  unfolding even-at modulo2
-  rest-is = eq-at (w .den) (self (modulo2 w)) (off-at (turns w)) (w .pos) (omega (arith, split))
-
-  over-is : natᶠ 2 -ᶠ modulo2 w ≈ᶠ off w (suc (turns w))
-  unfolding even-at modulo2
-  over-is = eq-at (w .den) (sub-at (w .den) (even-at 1) (self (modulo2 w))) (off-at (suc (turns w))) (w .pos) (omega (arith, split, small))
 
   -- ---- the share is the smaller of the two
   evenodd-min : evenOddShare w ≈ᶠ minᶠ (modulo2 w) (natᶠ 2 -ᶠ modulo2 w)

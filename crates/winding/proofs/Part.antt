@@ -44,13 +44,13 @@ unfolding downPart
 down-none a b c r h = if-not-less (top a r) (bottom b r) (integral (top a r) (bottom b r) (natᶠ (suc c) -ᶠ crossing a b (top a r)) (natᶠ (suc c) -ᶠ crossing a b (bottom b r))) (natᶠ 0) h
 
 -- ---- with the sign
-pub part-down : (a b : ExactPoint) (c r : ℕ) → a .y <ᶠ b .y → part a b c r ≡ downPart a b c r
-unfolding exactPart
-part-down a b c r h = if-less (a .y) (b .y) (downPart a b c r) (cond (ltᵇ (b .y) (a .y)) (negᶠ (downPart b a c r)) (natᶠ 0)) h
-
 pub part-up : (a b : ExactPoint) (c r : ℕ) → b .y <ᶠ a .y → part a b c r ≡ negᶠ (downPart b a c r)
 unfolding exactPart
 part-up a b c r h = rw (if-not-less (a .y) (b .y) (downPart a b c r) (cond (ltᵇ (b .y) (a .y)) (negᶠ (downPart b a c r)) (natᶠ 0)) (of-lt h), if-less (b .y) (a .y) (negᶠ (downPart b a c r)) (natᶠ 0) h) refl
+
+pub part-down : (a b : ExactPoint) (c r : ℕ) → a .y <ᶠ b .y → part a b c r ≡ downPart a b c r
+unfolding exactPart
+part-down a b c r h = if-less (a .y) (b .y) (downPart a b c r) (cond (ltᵇ (b .y) (a .y)) (negᶠ (downPart b a c r)) (natᶠ 0)) h
 
 pub part-level : (a b : ExactPoint) (c r : ℕ) → a .y ≈ᶠ b .y → part a b c r ≡ natᶠ 0
 unfolding exactPart

@@ -14,14 +14,6 @@ use Rattle.fraction.proofs.Clamp.{yes≤, no<, clamp-inside, clamp-below, clamp
 use Rattle.winding.specs.Winding.{H}
 
 -- ---- H
-pub H-low : (t : Fraction) → t ≤ᶠ natᶠ 0 → H t ≈ᶠ natᶠ 0
-unfolding H
-H-low t h = go (leᵇ t (natᶠ 0)) (leᵇ t (natᶠ 1)) (no< t (natᶠ 0))
-  where
-    go : (a b : Bool) → (T (not a) → natᶠ 0 <ᶠ t) → cond a (natᶠ 0) (cond b (t *ᶠ t *ᶠ 1 /2^ 1) (t -ᶠ 1 /2^ 1)) ≈ᶠ natᶠ 0
-    go true b f = refl≈ (natᶠ 0)
-    go false b f = absurd (over (t ∷ natᶠ 0 ∷ []) (λ N n A O. omega (arith, at-le N A O h, at-lt N O A n (f tt))))
-
 pub H-inside : (t : Fraction) → natᶠ 0 ≤ᶠ t → t ≤ᶠ natᶠ 1 → H t ≈ᶠ t *ᶠ t *ᶠ 1 /2^ 1
 unfolding H
 H-inside t p q = go (leᵇ t (natᶠ 0)) (leᵇ t (natᶠ 1)) (yes≤ t (natᶠ 0)) (λ h. of-lt (no< t (natᶠ 1) h))
@@ -35,6 +27,14 @@ H-inside t p q = go (leᵇ t (natᶠ 0)) (leᵇ t (natᶠ 1)) (yes≤ t (natᶠ 
     go false false f g =
         let e = antisym q (g tt) in
         trans≈ (over (t ∷ natᶠ 1 ∷ 1 /2^ 1 ∷ []) (λ N n A O P. eq-at N (sub-at N A P) P n (omega (arith, O .is, P .is, at-eq N A O e)))) (sym≈ (trans≈ (at-end (natᶠ 1) e) (unfold _*ᶠ_ in lit≈ tt)))
+
+pub H-low : (t : Fraction) → t ≤ᶠ natᶠ 0 → H t ≈ᶠ natᶠ 0
+unfolding H
+H-low t h = go (leᵇ t (natᶠ 0)) (leᵇ t (natᶠ 1)) (no< t (natᶠ 0))
+  where
+    go : (a b : Bool) → (T (not a) → natᶠ 0 <ᶠ t) → cond a (natᶠ 0) (cond b (t *ᶠ t *ᶠ 1 /2^ 1) (t -ᶠ 1 /2^ 1)) ≈ᶠ natᶠ 0
+    go true b f = refl≈ (natᶠ 0)
+    go false b f = absurd (over (t ∷ natᶠ 0 ∷ []) (λ N n A O. omega (arith, at-le N A O h, at-lt N O A n (f tt))))
 
 pub H-high : (t : Fraction) → natᶠ 1 ≤ᶠ t → H t ≈ᶠ t -ᶠ 1 /2^ 1
 unfolding H
