@@ -487,113 +487,112 @@ module _ (lo hi : Float) (first pen j : ℕ) (a : Float) (Lo : Num lo (natᶠ 40
       ),
     )
 
-    module _ where
-      -- how many of the even ones lie in cells up to c
-      none : (c : ℕ) → c ≤ suc first → natᶠ (some c) *ᶠ val x3 ≈ᶠ natᶠ 0
-      none c m = let z : some c ≡ 0 = omega (arith, m) in subst (λ (i : ℕ). natᶠ i *ᶠ val x3 ≈ᶠ natᶠ 0) (sym z) (zero-mul (val x3))
+    -- how many of the even ones lie in cells up to c
+    none : (c : ℕ) → c ≤ suc first → natᶠ (some c) *ᶠ val x3 ≈ᶠ natᶠ 0
+    none c m = let z : some c ≡ 0 = omega (arith, m) in subst (λ (i : ℕ). natᶠ i *ᶠ val x3 ≈ᶠ natᶠ 0) (sym z) (zero-mul (val x3))
 
-      -- left of the piece
-      case1 : (c : ℕ) → c < first → Near (prefix moreL c) (val a *ᶠ G c (val lo) (val hi)) acrossError
-      case1 c m =
-          let g = trans≈ (mul-cong (val a) (right-of c m)) (trans≈ (mul-comm (val a) (natᶠ 0)) (zero-mul (val a))) in
-          let p : prefix moreL c ≈ᶠ natᶠ 0 = trans≈ (prefix-is c) (trans≈ (cong-add (pick-out first (suc c) (val (a ⊗ head)) m) (cong-add (pick-out (first + 1) (suc c) (val x2) (omega (arith, m))) (cong-add (none c (omega (arith, m)))
-          (cong-add (pick-out pen (suc c) (val x4) (omega (arith, m, J))) (pick-out (suc pen) (suc c) (val (a ⊗ tail)) (omega (arith, m, J))))))) nothing) in
-          near-same (sym≈ p) (near-to (sym≈ g) (near-weaken (near-refl (natᶠ 0)) (lit tt)))
-        where
-          nothing : natᶠ 0 +ᶠ (natᶠ 0 +ᶠ (natᶠ 0 +ᶠ (natᶠ 0 +ᶠ natᶠ 0))) ≈ᶠ natᶠ 0
-          nothing = unfold _+ᶠ_ in lit≈ tt
+    -- left of the piece
+    case1 : (c : ℕ) → c < first → Near (prefix moreL c) (val a *ᶠ G c (val lo) (val hi)) acrossError
+    case1 c m =
+        let g = trans≈ (mul-cong (val a) (right-of c m)) (trans≈ (mul-comm (val a) (natᶠ 0)) (zero-mul (val a))) in
+        let p : prefix moreL c ≈ᶠ natᶠ 0 = trans≈ (prefix-is c) (trans≈ (cong-add (pick-out first (suc c) (val (a ⊗ head)) m) (cong-add (pick-out (first + 1) (suc c) (val x2) (omega (arith, m))) (cong-add (none c (omega (arith, m)))
+        (cong-add (pick-out pen (suc c) (val x4) (omega (arith, m, J))) (pick-out (suc pen) (suc c) (val (a ⊗ tail)) (omega (arith, m, J))))))) nothing) in
+        near-same (sym≈ p) (near-to (sym≈ g) (near-weaken (near-refl (natᶠ 0)) (lit tt)))
+      where
+        nothing : natᶠ 0 +ᶠ (natᶠ 0 +ᶠ (natᶠ 0 +ᶠ (natᶠ 0 +ᶠ natᶠ 0))) ≈ᶠ natᶠ 0
+        nothing = unfold _+ᶠ_ in lit≈ tt
 
-      -- its first cell
-      case2 : Near (prefix moreL first) (val a *ᶠ G first (val lo) (val hi)) acrossError
-      case2 =
-          let c = first in
-          let p : prefix moreL c ≈ᶠ val (a ⊗ head) = trans≈ (prefix-is c) (trans≈ (cong-add (pick-in first (suc c) (val (a ⊗ head)) (le-refl (suc first))) (cong-add (pick-out (first + 1) (suc c) (val x2) (omega arith)) (cong-add (none c (omega arith))
-          (cong-add (pick-out pen (suc c) (val x4) (omega (arith, J))) (pick-out (suc pen) (suc c) (val (a ⊗ tail)) (omega (arith, J))))))) (nothing (val (a ⊗ head)))) in
-          near-same (sym≈ p) (near-to (mul-cong (val a) (sym≈ (G-first first (val lo) (val hi) r rW from below inside))) (near-weaken (x1-ok .1) (lit tt)))
-        where
-          nothing : (x : Fraction) → x +ᶠ (natᶠ 0 +ᶠ (natᶠ 0 +ᶠ (natᶠ 0 +ᶠ natᶠ 0))) ≈ᶠ x
-          nothing x = over (x ∷ natᶠ 0 ∷ []) (λ N n X O. eq-at N (search at) X n (omega (arith, O .is)))
+    -- its first cell
+    case2 : Near (prefix moreL first) (val a *ᶠ G first (val lo) (val hi)) acrossError
+    case2 =
+        let c = first in
+        let p : prefix moreL c ≈ᶠ val (a ⊗ head) = trans≈ (prefix-is c) (trans≈ (cong-add (pick-in first (suc c) (val (a ⊗ head)) (le-refl (suc first))) (cong-add (pick-out (first + 1) (suc c) (val x2) (omega arith)) (cong-add (none c (omega arith))
+        (cong-add (pick-out pen (suc c) (val x4) (omega (arith, J))) (pick-out (suc pen) (suc c) (val (a ⊗ tail)) (omega (arith, J))))))) (nothing (val (a ⊗ head)))) in
+        near-same (sym≈ p) (near-to (mul-cong (val a) (sym≈ (G-first first (val lo) (val hi) r rW from below inside))) (near-weaken (x1-ok .1) (lit tt)))
+      where
+        nothing : (x : Fraction) → x +ᶠ (natᶠ 0 +ᶠ (natᶠ 0 +ᶠ (natᶠ 0 +ᶠ natᶠ 0))) ≈ᶠ x
+        nothing x = over (x ∷ natᶠ 0 ∷ []) (λ N n X O. eq-at N (search at) X n (omega (arith, O .is)))
 
-      -- between
-      case3 : (c i : ℕ) → c ≡ suc first + i → i ≤ k → Near (prefix moreL c) (val a *ᶠ G c (val lo) (val hi)) acrossError
-      case3 c i z m =
-          let y : some c ≡ i = omega (arith, z, m) in
-          let p : prefix moreL c ≈ᶠ val (a ⊗ head) +ᶠ (val x2 +ᶠ natᶠ i *ᶠ val x3) = trans≈ (prefix-is c) (trans≈ (cong-add (pick-in first (suc c) (val (a ⊗ head)) (omega (arith, z))) (cong-add (pick-in (first + 1) (suc c) (val x2) (omega (arith, z)))
-          (cong-add (subst (λ (d : ℕ). natᶠ (some c) *ᶠ val x3 ≈ᶠ natᶠ d *ᶠ val x3) y (record { eq = refl }))
-          (cong-add (pick-out pen (suc c) (val x4) (omega (arith, J, K, z, m))) (pick-out (suc pen) (suc c) (val (a ⊗ tail)) (omega (arith, J, K, z, m))))))) (nothing (val (a ⊗ head)) (val x2) (natᶠ i *ᶠ val x3))) in
-          let F = natᶠ (suc first) in
-          let v = 1 /2^ 1 in
-          let ρ = val a ∷ h ∷ r ∷ F ∷ val lo ∷ v ∷ natᶠ i ∷ [] in
-          let R = reps ρ in
-          let sum = ring ρ {x = val a *ᶠ h +ᶠ (val a *ᶠ (r *ᶠ (F -ᶠ val lo +ᶠ v) -ᶠ h) +ᶠ val a *ᶠ (r *ᶠ natᶠ i))} {y = val a *ᶠ (r *ᶠ (F +ᶠ natᶠ i +ᶠ v -ᶠ val lo))} (search rep depth 9) (search rep depth 9) tt in
-          let cell : natᶠ c ≈ᶠ F +ᶠ natᶠ i = over (natᶠ c ∷ F ∷ natᶠ i ∷ []) (λ N n A B D. eq-at N A (add-at N B D) n (omega (arith, A .is, B .is, D .is, ap (λ (d : ℕ). d * N) z))) in
-          let g = G-between c (val lo) (val hi) r rW
-          (over (val lo ∷ F ∷ natᶠ c ∷ []) (λ N n L B A. le-at N L A n (omega (arith, A .is, B .is, ap (λ (d : ℕ). d * N) z, at-lt N L B n below))))
-          (trans (record { le = omega (arith, J, K, z, m) }) (of-lt beyond)) in
-          near-same (sym≈ p) (near-to (trans≈ sum (mul-cong (val a) (sym≈ (trans≈ g (mul-cong r (cong-sub (cong-add cell (record { eq = refl })) (record { eq = refl })))))))
-          (near-weaken (near-add (x1-ok .1) (near-add (x2-ok .1) (x3-times i m))) (unfold _+ᶠ_ in lit tt)))
-        where
-          nothing : (x y z : Fraction) → x +ᶠ (y +ᶠ (z +ᶠ (natᶠ 0 +ᶠ natᶠ 0))) ≈ᶠ x +ᶠ (y +ᶠ z)
-          nothing x y z = over (x ∷ y ∷ z ∷ natᶠ 0 ∷ []) (λ N n X Y Z O. eq-at N (search at) (search at) n (omega (arith, O .is)))
+    -- between
+    case3 : (c i : ℕ) → c ≡ suc first + i → i ≤ k → Near (prefix moreL c) (val a *ᶠ G c (val lo) (val hi)) acrossError
+    case3 c i z m =
+        let y : some c ≡ i = omega (arith, z, m) in
+        let p : prefix moreL c ≈ᶠ val (a ⊗ head) +ᶠ (val x2 +ᶠ natᶠ i *ᶠ val x3) = trans≈ (prefix-is c) (trans≈ (cong-add (pick-in first (suc c) (val (a ⊗ head)) (omega (arith, z))) (cong-add (pick-in (first + 1) (suc c) (val x2) (omega (arith, z)))
+        (cong-add (subst (λ (d : ℕ). natᶠ (some c) *ᶠ val x3 ≈ᶠ natᶠ d *ᶠ val x3) y (record { eq = refl }))
+        (cong-add (pick-out pen (suc c) (val x4) (omega (arith, J, K, z, m))) (pick-out (suc pen) (suc c) (val (a ⊗ tail)) (omega (arith, J, K, z, m))))))) (nothing (val (a ⊗ head)) (val x2) (natᶠ i *ᶠ val x3))) in
+        let F = natᶠ (suc first) in
+        let v = 1 /2^ 1 in
+        let ρ = val a ∷ h ∷ r ∷ F ∷ val lo ∷ v ∷ natᶠ i ∷ [] in
+        let R = reps ρ in
+        let sum = ring ρ {x = val a *ᶠ h +ᶠ (val a *ᶠ (r *ᶠ (F -ᶠ val lo +ᶠ v) -ᶠ h) +ᶠ val a *ᶠ (r *ᶠ natᶠ i))} {y = val a *ᶠ (r *ᶠ (F +ᶠ natᶠ i +ᶠ v -ᶠ val lo))} (search rep depth 9) (search rep depth 9) tt in
+        let cell : natᶠ c ≈ᶠ F +ᶠ natᶠ i = over (natᶠ c ∷ F ∷ natᶠ i ∷ []) (λ N n A B D. eq-at N A (add-at N B D) n (omega (arith, A .is, B .is, D .is, ap (λ (d : ℕ). d * N) z))) in
+        let g = G-between c (val lo) (val hi) r rW
+        (over (val lo ∷ F ∷ natᶠ c ∷ []) (λ N n L B A. le-at N L A n (omega (arith, A .is, B .is, ap (λ (d : ℕ). d * N) z, at-lt N L B n below))))
+        (trans (record { le = omega (arith, J, K, z, m) }) (of-lt beyond)) in
+        near-same (sym≈ p) (near-to (trans≈ sum (mul-cong (val a) (sym≈ (trans≈ g (mul-cong r (cong-sub (cong-add cell (record { eq = refl })) (record { eq = refl })))))))
+        (near-weaken (near-add (x1-ok .1) (near-add (x2-ok .1) (x3-times i m))) (unfold _+ᶠ_ in lit tt)))
+      where
+        nothing : (x y z : Fraction) → x +ᶠ (y +ᶠ (z +ᶠ (natᶠ 0 +ᶠ natᶠ 0))) ≈ᶠ x +ᶠ (y +ᶠ z)
+        nothing x y z = over (x ∷ y ∷ z ∷ natᶠ 0 ∷ []) (λ N n X Y Z O. eq-at N (search at) (search at) n (omega (arith, O .is)))
 
-          of-lt : {x y : Fraction} → x <ᶠ y → x ≤ᶠ y
-          of-lt {x} {y} h = over (x ∷ y ∷ []) (λ N n X Y. le-at N X Y n (omega (arith, at-lt N X Y n h)))
+        of-lt : {x y : Fraction} → x <ᶠ y → x ≤ᶠ y
+        of-lt {x} {y} h = over (x ∷ y ∷ []) (λ N n X Y. le-at N X Y n (omega (arith, at-lt N X Y n h)))
 
-      -- the sum of all but the last entry
-      all-but : Near (val (a ⊗ head) +ᶠ (val x2 +ᶠ (natᶠ k *ᶠ val x3 +ᶠ val x4))) (val a *ᶠ (natᶠ 1 -ᶠ t)) (11 /2^ 18)
-      all-but =
-          let ρ = val a ∷ h ∷ s ∷ q ∷ t ∷ [] in
-          let R = reps ρ in
-          let sum = ring ρ {x = val a *ᶠ h +ᶠ (val a *ᶠ (s -ᶠ h) +ᶠ (val a *ᶠ q +ᶠ val a *ᶠ (natᶠ 1 -ᶠ (s +ᶠ q) -ᶠ t)))} {y = val a *ᶠ (natᶠ 1 -ᶠ t)} (search rep depth 9) (search rep depth 9) tt in
-          near-to sum (near-weaken (near-add (x1-ok .1) (near-add (x2-ok .1) (near-add (x3-times k (le-refl k)) (x4-ok .1)))) (unfold _+ᶠ_ in lit tt))
+    -- the sum of all but the last entry
+    all-but : Near (val (a ⊗ head) +ᶠ (val x2 +ᶠ (natᶠ k *ᶠ val x3 +ᶠ val x4))) (val a *ᶠ (natᶠ 1 -ᶠ t)) (11 /2^ 18)
+    all-but =
+        let ρ = val a ∷ h ∷ s ∷ q ∷ t ∷ [] in
+        let R = reps ρ in
+        let sum = ring ρ {x = val a *ᶠ h +ᶠ (val a *ᶠ (s -ᶠ h) +ᶠ (val a *ᶠ q +ᶠ val a *ᶠ (natᶠ 1 -ᶠ (s +ᶠ q) -ᶠ t)))} {y = val a *ᶠ (natᶠ 1 -ᶠ t)} (search rep depth 9) (search rep depth 9) tt in
+        near-to sum (near-weaken (near-add (x1-ok .1) (near-add (x2-ok .1) (near-add (x3-times k (le-refl k)) (x4-ok .1)))) (unfold _+ᶠ_ in lit tt))
 
-      -- the last cell but one
-      case4 : Near (prefix moreL pen) (val a *ᶠ G pen (val lo) (val hi)) acrossError
-      case4 =
-          let c = pen in
-          let y : some c ≡ k = omega (arith, J, K) in
-          let p : prefix moreL c ≈ᶠ val (a ⊗ head) +ᶠ (val x2 +ᶠ (natᶠ k *ᶠ val x3 +ᶠ val x4)) = trans≈ (prefix-is c) (trans≈ (cong-add (pick-in first (suc c) (val (a ⊗ head)) (omega (arith, J, K))) (cong-add (pick-in (first + 1) (suc c) (val x2) (omega (arith, J, K)))
-          (cong-add (subst (λ (d : ℕ). natᶠ (some c) *ᶠ val x3 ≈ᶠ natᶠ d *ᶠ val x3) y (record { eq = refl }))
-          (cong-add (pick-in pen (suc c) (val x4) (le-refl (suc pen))) (pick-out (suc pen) (suc c) (val (a ⊗ tail)) (le-refl (suc pen))))))) (nothing (val (a ⊗ head)) (val x2) (natᶠ k *ᶠ val x3) (val x4))) in
-          let g = G-last pen (val lo) (val hi) r rW (over (val lo ∷ natᶠ (suc first) ∷ natᶠ pen ∷ []) (λ N n L B A. le-at N L A n (omega (arith, A .is, B .is, ap (λ (d : ℕ). d * N) J, at-lt N L B n below)))) beyond to in
-          near-same (sym≈ p) (near-to (mul-cong (val a) (sym≈ g)) (near-weaken all-but (lit tt)))
-        where
-          nothing : (x y z w : Fraction) → x +ᶠ (y +ᶠ (z +ᶠ (w +ᶠ natᶠ 0))) ≈ᶠ x +ᶠ (y +ᶠ (z +ᶠ w))
-          nothing x y z w = over (x ∷ y ∷ z ∷ w ∷ natᶠ 0 ∷ []) (λ N n X Y Z W O. eq-at N (search at) (search at) n (omega (arith, O .is)))
+    -- the last cell but one
+    case4 : Near (prefix moreL pen) (val a *ᶠ G pen (val lo) (val hi)) acrossError
+    case4 =
+        let c = pen in
+        let y : some c ≡ k = omega (arith, J, K) in
+        let p : prefix moreL c ≈ᶠ val (a ⊗ head) +ᶠ (val x2 +ᶠ (natᶠ k *ᶠ val x3 +ᶠ val x4)) = trans≈ (prefix-is c) (trans≈ (cong-add (pick-in first (suc c) (val (a ⊗ head)) (omega (arith, J, K))) (cong-add (pick-in (first + 1) (suc c) (val x2) (omega (arith, J, K)))
+        (cong-add (subst (λ (d : ℕ). natᶠ (some c) *ᶠ val x3 ≈ᶠ natᶠ d *ᶠ val x3) y (record { eq = refl }))
+        (cong-add (pick-in pen (suc c) (val x4) (le-refl (suc pen))) (pick-out (suc pen) (suc c) (val (a ⊗ tail)) (le-refl (suc pen))))))) (nothing (val (a ⊗ head)) (val x2) (natᶠ k *ᶠ val x3) (val x4))) in
+        let g = G-last pen (val lo) (val hi) r rW (over (val lo ∷ natᶠ (suc first) ∷ natᶠ pen ∷ []) (λ N n L B A. le-at N L A n (omega (arith, A .is, B .is, ap (λ (d : ℕ). d * N) J, at-lt N L B n below)))) beyond to in
+        near-same (sym≈ p) (near-to (mul-cong (val a) (sym≈ g)) (near-weaken all-but (lit tt)))
+      where
+        nothing : (x y z w : Fraction) → x +ᶠ (y +ᶠ (z +ᶠ (w +ᶠ natᶠ 0))) ≈ᶠ x +ᶠ (y +ᶠ (z +ᶠ w))
+        nothing x y z w = over (x ∷ y ∷ z ∷ w ∷ natᶠ 0 ∷ []) (λ N n X Y Z W O. eq-at N (search at) (search at) n (omega (arith, O .is)))
 
-      -- right of the piece
-      case5 : (c : ℕ) → suc pen ≤ c → Near (prefix moreL c) (val a *ᶠ G c (val lo) (val hi)) acrossError
-      case5 c m =
-          let y : some c ≡ k = omega (arith, J, K, m) in
-          let p : prefix moreL c ≈ᶠ val (a ⊗ head) +ᶠ (val x2 +ᶠ (natᶠ k *ᶠ val x3 +ᶠ val x4)) +ᶠ val (a ⊗ tail) = trans≈ (prefix-is c) (trans≈ (cong-add (pick-in first (suc c) (val (a ⊗ head)) (omega (arith, J, K, m))) (cong-add (pick-in (first + 1) (suc c) (val x2) (omega (arith, J, K, m)))
-          (cong-add (subst (λ (d : ℕ). natᶠ (some c) *ᶠ val x3 ≈ᶠ natᶠ d *ᶠ val x3) y (record { eq = refl }))
-          (cong-add (pick-in pen (suc c) (val x4) (omega (arith, m))) (pick-in (suc pen) (suc c) (val (a ⊗ tail)) (omega (arith, m))))))) (group (val (a ⊗ head)) (val x2) (natᶠ k *ᶠ val x3) (val x4) (val (a ⊗ tail)))) in
-          let g = trans≈ (mul-cong (val a) (left-of c m)) (mul-one (val a)) in
-          let ρ = val a ∷ t ∷ [] in
-          let R = reps ρ in
-          near-same (sym≈ p) (near-to (trans≈ (ring ρ {x = val a *ᶠ (natᶠ 1 -ᶠ t) +ᶠ val a *ᶠ t} {y = val a} (search rep depth 7) (search rep depth 7) tt) (sym≈ g)) (near-weaken (near-add all-but (x5-ok .1)) (unfold _+ᶠ_ in lit tt)))
-        where
-          group : (x y z w v : Fraction) → x +ᶠ (y +ᶠ (z +ᶠ (w +ᶠ v))) ≈ᶠ x +ᶠ (y +ᶠ (z +ᶠ w)) +ᶠ v
-          group x y z w v = over (x ∷ y ∷ z ∷ w ∷ v ∷ []) (λ N n X Y Z W U. eq-at N (search at) (search at) n (omega arith))
+    -- right of the piece
+    case5 : (c : ℕ) → suc pen ≤ c → Near (prefix moreL c) (val a *ᶠ G c (val lo) (val hi)) acrossError
+    case5 c m =
+        let y : some c ≡ k = omega (arith, J, K, m) in
+        let p : prefix moreL c ≈ᶠ val (a ⊗ head) +ᶠ (val x2 +ᶠ (natᶠ k *ᶠ val x3 +ᶠ val x4)) +ᶠ val (a ⊗ tail) = trans≈ (prefix-is c) (trans≈ (cong-add (pick-in first (suc c) (val (a ⊗ head)) (omega (arith, J, K, m))) (cong-add (pick-in (first + 1) (suc c) (val x2) (omega (arith, J, K, m)))
+        (cong-add (subst (λ (d : ℕ). natᶠ (some c) *ᶠ val x3 ≈ᶠ natᶠ d *ᶠ val x3) y (record { eq = refl }))
+        (cong-add (pick-in pen (suc c) (val x4) (omega (arith, m))) (pick-in (suc pen) (suc c) (val (a ⊗ tail)) (omega (arith, m))))))) (group (val (a ⊗ head)) (val x2) (natᶠ k *ᶠ val x3) (val x4) (val (a ⊗ tail)))) in
+        let g = trans≈ (mul-cong (val a) (left-of c m)) (mul-one (val a)) in
+        let ρ = val a ∷ t ∷ [] in
+        let R = reps ρ in
+        near-same (sym≈ p) (near-to (trans≈ (ring ρ {x = val a *ᶠ (natᶠ 1 -ᶠ t) +ᶠ val a *ᶠ t} {y = val a} (search rep depth 7) (search rep depth 7) tt) (sym≈ g)) (near-weaken (near-add all-but (x5-ok .1)) (unfold _+ᶠ_ in lit tt)))
+      where
+        group : (x y z w v : Fraction) → x +ᶠ (y +ᶠ (z +ᶠ (w +ᶠ v))) ≈ᶠ x +ᶠ (y +ᶠ (z +ᶠ w)) +ᶠ v
+        group x y z w v = over (x ∷ y ∷ z ∷ w ∷ v ∷ []) (λ N n X Y Z W U. eq-at N (search at) (search at) n (omega arith))
 
-      more-near : (c : ℕ) → Near (prefix moreL c) (val a *ᶠ G c (val lo) (val hi)) acrossError
-      more-near c = go (decLe first c) (decLe (suc first) c) (decLe pen c) (decLe (suc pen) c)
-        where
-          go : Dec (first ≤ c) → Dec (suc first ≤ c) → Dec (pen ≤ c) → Dec (suc pen ≤ c) → Near (prefix moreL c) (val a *ᶠ G c (val lo) (val hi)) acrossError
-          go (no f) x y z = case1 c (omega (arith, f))
-          go (yes m) (no f) y z = subst (λ (d : ℕ). Near (prefix moreL d) (val a *ᶠ G d (val lo) (val hi)) acrossError) (le-antisymm m (omega (arith, f))) case2
-          go (yes m) (yes x) (no f) z = case3 c (c - suc first) (omega (arith, x)) (omega (arith, f, x, J, K))
-          go (yes m) (yes x) (yes y) (no f) = subst (λ (d : ℕ). Near (prefix moreL d) (val a *ᶠ G d (val lo) (val hi)) acrossError) (le-antisymm y (omega (arith, f))) case4
-          go (yes m) (yes x) (yes y) (yes z) = case5 c z
+    more-near : (c : ℕ) → Near (prefix moreL c) (val a *ᶠ G c (val lo) (val hi)) acrossError
+    more-near c = go (decLe first c) (decLe (suc first) c) (decLe pen c) (decLe (suc pen) c)
+      where
+        go : Dec (first ≤ c) → Dec (suc first ≤ c) → Dec (pen ≤ c) → Dec (suc pen ≤ c) → Near (prefix moreL c) (val a *ᶠ G c (val lo) (val hi)) acrossError
+        go (no f) x y z = case1 c (omega (arith, f))
+        go (yes m) (no f) y z = subst (λ (d : ℕ). Near (prefix moreL d) (val a *ᶠ G d (val lo) (val hi)) acrossError) (le-antisymm m (omega (arith, f))) case2
+        go (yes m) (yes x) (no f) z = case3 c (c - suc first) (omega (arith, x)) (omega (arith, f, x, J, K))
+        go (yes m) (yes x) (yes y) (no f) = subst (λ (d : ℕ). Near (prefix moreL d) (val a *ᶠ G d (val lo) (val hi)) acrossError) (le-antisymm y (omega (arith, f))) case4
+        go (yes m) (yes x) (yes y) (yes z) = case5 c z
 
-      pub more-adds : (w : ℕ) → Adds w 1 moreL (val lo) (val hi) (val a) acrossError acrossError
-      more-adds w = record {
-        fine = more-fine;
-        near = λ c m. more-near c;
-        size = more-size;
-        few = λ i. rising-once i first moreL more-rises;
-        from = λ i m n. rising-from i first moreL (least i m) more-rises;
-      }
+    pub more-adds : (w : ℕ) → Adds w 1 moreL (val lo) (val hi) (val a) acrossError acrossError
+    more-adds w = record {
+      fine = more-fine;
+      near = λ c m. more-near c;
+      size = more-size;
+      few = λ i. rising-once i first moreL more-rises;
+      from = λ i m n. rising-from i first moreL (least i m) more-rises;
+    }
 
   -- ---- two cells
   module _ (Z : j ≡ 0) where
@@ -639,69 +638,68 @@ module _ (lo hi : Float) (first pen j : ℕ) (a : Float) (Lo : Num lo (natᶠ 40
         trans w (over (B ∷ B *ᶠ h ∷ B *ᶠ (natᶠ 1 -ᶠ h -ᶠ t) ∷ B *ᶠ t ∷ 1 /2^ 17 ∷ 1 /2^ 16 ∷ acrossError ∷ natᶠ 0 ∷ []) (λ N n b y1 y2 y5 e17 e16 e14 o.
         le-at N (search at depth 9) (search at depth 9) n (omega (arith, o .is, e17 .is, e16 .is, e14 .is, at-eq N (add-at N y1 (add-at N y2 y5)) b sum))))
 
-    module _ where
-      two1 : (c : ℕ) → c < first → Near (prefix twoL c) (val a *ᶠ G c (val lo) (val hi)) acrossError
-      two1 c m =
-          let g = trans≈ (mul-cong (val a) (right-of c m)) (trans≈ (mul-comm (val a) (natᶠ 0)) (zero-mul (val a))) in
-          let p : prefix twoL c ≈ᶠ natᶠ 0 = trans≈ (two-is c) (trans≈ (cong-add (pick-out first (suc c) (val (a ⊗ head)) m) (cong-add (pick-out (first + 1) (suc c) (val y2) (omega (arith, m))) (pick-out (suc pen) (suc c) (val (a ⊗ tail)) (omega (arith, m, J))))) nothing) in
-          near-same (sym≈ p) (near-to (sym≈ g) (near-weaken (near-refl (natᶠ 0)) (lit tt)))
-        where
-          nothing : natᶠ 0 +ᶠ (natᶠ 0 +ᶠ natᶠ 0) ≈ᶠ natᶠ 0
-          nothing = unfold _+ᶠ_ in lit≈ tt
+    two1 : (c : ℕ) → c < first → Near (prefix twoL c) (val a *ᶠ G c (val lo) (val hi)) acrossError
+    two1 c m =
+        let g = trans≈ (mul-cong (val a) (right-of c m)) (trans≈ (mul-comm (val a) (natᶠ 0)) (zero-mul (val a))) in
+        let p : prefix twoL c ≈ᶠ natᶠ 0 = trans≈ (two-is c) (trans≈ (cong-add (pick-out first (suc c) (val (a ⊗ head)) m) (cong-add (pick-out (first + 1) (suc c) (val y2) (omega (arith, m))) (pick-out (suc pen) (suc c) (val (a ⊗ tail)) (omega (arith, m, J))))) nothing) in
+        near-same (sym≈ p) (near-to (sym≈ g) (near-weaken (near-refl (natᶠ 0)) (lit tt)))
+      where
+        nothing : natᶠ 0 +ᶠ (natᶠ 0 +ᶠ natᶠ 0) ≈ᶠ natᶠ 0
+        nothing = unfold _+ᶠ_ in lit≈ tt
 
-      two2 : Near (prefix twoL first) (val a *ᶠ G first (val lo) (val hi)) acrossError
-      two2 =
-          let c = first in
-          let p : prefix twoL c ≈ᶠ val (a ⊗ head) = trans≈ (two-is c) (trans≈ (cong-add (pick-in first (suc c) (val (a ⊗ head)) (le-refl (suc first))) (cong-add (pick-out (first + 1) (suc c) (val y2) (omega arith)) (pick-out (suc pen) (suc c) (val (a ⊗ tail)) (omega (arith, J))))) (nothing (val (a ⊗ head)))) in
-          near-same (sym≈ p) (near-to (mul-cong (val a) (sym≈ (G-first first (val lo) (val hi) r rW from below inside))) (near-weaken (x1-ok .1) (lit tt)))
-        where
-          nothing : (x : Fraction) → x +ᶠ (natᶠ 0 +ᶠ natᶠ 0) ≈ᶠ x
-          nothing x = over (x ∷ natᶠ 0 ∷ []) (λ N n X O. eq-at N (search at) X n (omega (arith, O .is)))
+    two2 : Near (prefix twoL first) (val a *ᶠ G first (val lo) (val hi)) acrossError
+    two2 =
+        let c = first in
+        let p : prefix twoL c ≈ᶠ val (a ⊗ head) = trans≈ (two-is c) (trans≈ (cong-add (pick-in first (suc c) (val (a ⊗ head)) (le-refl (suc first))) (cong-add (pick-out (first + 1) (suc c) (val y2) (omega arith)) (pick-out (suc pen) (suc c) (val (a ⊗ tail)) (omega (arith, J))))) (nothing (val (a ⊗ head)))) in
+        near-same (sym≈ p) (near-to (mul-cong (val a) (sym≈ (G-first first (val lo) (val hi) r rW from below inside))) (near-weaken (x1-ok .1) (lit tt)))
+      where
+        nothing : (x : Fraction) → x +ᶠ (natᶠ 0 +ᶠ natᶠ 0) ≈ᶠ x
+        nothing x = over (x ∷ natᶠ 0 ∷ []) (λ N n X O. eq-at N (search at) X n (omega (arith, O .is)))
 
-      two-but : Near (val (a ⊗ head) +ᶠ val y2) (val a *ᶠ (natᶠ 1 -ᶠ t)) (11 /2^ 18)
-      two-but =
-          let ρ = val a ∷ h ∷ t ∷ [] in
-          let R = reps ρ in
-          let sum = ring ρ {x = val a *ᶠ h +ᶠ val a *ᶠ (natᶠ 1 -ᶠ h -ᶠ t)} {y = val a *ᶠ (natᶠ 1 -ᶠ t)} (search rep depth 9) (search rep depth 9) tt in
-          near-to sum (near-weaken (near-add (x1-ok .1) (x2-two .1)) (unfold _+ᶠ_ in lit tt))
+    two-but : Near (val (a ⊗ head) +ᶠ val y2) (val a *ᶠ (natᶠ 1 -ᶠ t)) (11 /2^ 18)
+    two-but =
+        let ρ = val a ∷ h ∷ t ∷ [] in
+        let R = reps ρ in
+        let sum = ring ρ {x = val a *ᶠ h +ᶠ val a *ᶠ (natᶠ 1 -ᶠ h -ᶠ t)} {y = val a *ᶠ (natᶠ 1 -ᶠ t)} (search rep depth 9) (search rep depth 9) tt in
+        near-to sum (near-weaken (near-add (x1-ok .1) (x2-two .1)) (unfold _+ᶠ_ in lit tt))
 
-      two3 : Near (prefix twoL pen) (val a *ᶠ G pen (val lo) (val hi)) acrossError
-      two3 =
-          let c = pen in
-          let p : prefix twoL c ≈ᶠ val (a ⊗ head) +ᶠ val y2 = trans≈ (two-is c) (trans≈ (cong-add (pick-in first (suc c) (val (a ⊗ head)) (omega (arith, J))) (cong-add (pick-in (first + 1) (suc c) (val y2) (omega (arith, J))) (pick-out (suc pen) (suc c) (val (a ⊗ tail)) (le-refl (suc pen)))))
-          (nothing (val (a ⊗ head)) (val y2))) in
-          let g = G-last pen (val lo) (val hi) r rW (over (val lo ∷ natᶠ (suc first) ∷ natᶠ pen ∷ []) (λ N n L B A. le-at N L A n (omega (arith, A .is, B .is, ap (λ (d : ℕ). d * N) J, at-lt N L B n below)))) beyond to in
-          near-same (sym≈ p) (near-to (mul-cong (val a) (sym≈ g)) (near-weaken two-but (lit tt)))
-        where
-          nothing : (x y : Fraction) → x +ᶠ (y +ᶠ natᶠ 0) ≈ᶠ x +ᶠ y
-          nothing x y = over (x ∷ y ∷ natᶠ 0 ∷ []) (λ N n X Y O. eq-at N (search at) (search at) n (omega (arith, O .is)))
+    two3 : Near (prefix twoL pen) (val a *ᶠ G pen (val lo) (val hi)) acrossError
+    two3 =
+        let c = pen in
+        let p : prefix twoL c ≈ᶠ val (a ⊗ head) +ᶠ val y2 = trans≈ (two-is c) (trans≈ (cong-add (pick-in first (suc c) (val (a ⊗ head)) (omega (arith, J))) (cong-add (pick-in (first + 1) (suc c) (val y2) (omega (arith, J))) (pick-out (suc pen) (suc c) (val (a ⊗ tail)) (le-refl (suc pen)))))
+        (nothing (val (a ⊗ head)) (val y2))) in
+        let g = G-last pen (val lo) (val hi) r rW (over (val lo ∷ natᶠ (suc first) ∷ natᶠ pen ∷ []) (λ N n L B A. le-at N L A n (omega (arith, A .is, B .is, ap (λ (d : ℕ). d * N) J, at-lt N L B n below)))) beyond to in
+        near-same (sym≈ p) (near-to (mul-cong (val a) (sym≈ g)) (near-weaken two-but (lit tt)))
+      where
+        nothing : (x y : Fraction) → x +ᶠ (y +ᶠ natᶠ 0) ≈ᶠ x +ᶠ y
+        nothing x y = over (x ∷ y ∷ natᶠ 0 ∷ []) (λ N n X Y O. eq-at N (search at) (search at) n (omega (arith, O .is)))
 
-      two4 : (c : ℕ) → suc pen ≤ c → Near (prefix twoL c) (val a *ᶠ G c (val lo) (val hi)) acrossError
-      two4 c m =
-          let p : prefix twoL c ≈ᶠ val (a ⊗ head) +ᶠ val y2 +ᶠ val (a ⊗ tail) = trans≈ (two-is c) (trans≈ (cong-add (pick-in first (suc c) (val (a ⊗ head)) (omega (arith, J, m))) (cong-add (pick-in (first + 1) (suc c) (val y2) (omega (arith, J, m))) (pick-in (suc pen) (suc c) (val (a ⊗ tail)) (omega (arith, m)))))
-          (group (val (a ⊗ head)) (val y2) (val (a ⊗ tail)))) in
-          let g = trans≈ (mul-cong (val a) (left-of c m)) (mul-one (val a)) in
-          let ρ = val a ∷ t ∷ [] in
-          let R = reps ρ in
-          near-same (sym≈ p) (near-to (trans≈ (ring ρ {x = val a *ᶠ (natᶠ 1 -ᶠ t) +ᶠ val a *ᶠ t} {y = val a} (search rep depth 7) (search rep depth 7) tt) (sym≈ g)) (near-weaken (near-add two-but (x5-ok .1)) (unfold _+ᶠ_ in lit tt)))
-        where
-          group : (x y z : Fraction) → x +ᶠ (y +ᶠ z) ≈ᶠ x +ᶠ y +ᶠ z
-          group x y z = over (x ∷ y ∷ z ∷ []) (λ N n X Y Z. eq-at N (search at) (search at) n (omega arith))
+    two4 : (c : ℕ) → suc pen ≤ c → Near (prefix twoL c) (val a *ᶠ G c (val lo) (val hi)) acrossError
+    two4 c m =
+        let p : prefix twoL c ≈ᶠ val (a ⊗ head) +ᶠ val y2 +ᶠ val (a ⊗ tail) = trans≈ (two-is c) (trans≈ (cong-add (pick-in first (suc c) (val (a ⊗ head)) (omega (arith, J, m))) (cong-add (pick-in (first + 1) (suc c) (val y2) (omega (arith, J, m))) (pick-in (suc pen) (suc c) (val (a ⊗ tail)) (omega (arith, m)))))
+        (group (val (a ⊗ head)) (val y2) (val (a ⊗ tail)))) in
+        let g = trans≈ (mul-cong (val a) (left-of c m)) (mul-one (val a)) in
+        let ρ = val a ∷ t ∷ [] in
+        let R = reps ρ in
+        near-same (sym≈ p) (near-to (trans≈ (ring ρ {x = val a *ᶠ (natᶠ 1 -ᶠ t) +ᶠ val a *ᶠ t} {y = val a} (search rep depth 7) (search rep depth 7) tt) (sym≈ g)) (near-weaken (near-add two-but (x5-ok .1)) (unfold _+ᶠ_ in lit tt)))
+      where
+        group : (x y z : Fraction) → x +ᶠ (y +ᶠ z) ≈ᶠ x +ᶠ y +ᶠ z
+        group x y z = over (x ∷ y ∷ z ∷ []) (λ N n X Y Z. eq-at N (search at) (search at) n (omega arith))
 
-      two-near : (c : ℕ) → Near (prefix twoL c) (val a *ᶠ G c (val lo) (val hi)) acrossError
-      two-near c = go (decLe first c) (decLe (suc first) c) (decLe (suc pen) c)
-        where
-          go : Dec (first ≤ c) → Dec (suc first ≤ c) → Dec (suc pen ≤ c) → Near (prefix twoL c) (val a *ᶠ G c (val lo) (val hi)) acrossError
-          go (no f) x z = two1 c (omega (arith, f))
-          go (yes m) (no f) z = subst (λ (d : ℕ). Near (prefix twoL d) (val a *ᶠ G d (val lo) (val hi)) acrossError) (le-antisymm m (omega (arith, f))) two2
-          go (yes m) (yes x) (no f) = subst (λ (d : ℕ). Near (prefix twoL d) (val a *ᶠ G d (val lo) (val hi)) acrossError) (omega (arith, J, Z, x, f)) two3
-          go (yes m) (yes x) (yes z) = two4 c z
+    two-near : (c : ℕ) → Near (prefix twoL c) (val a *ᶠ G c (val lo) (val hi)) acrossError
+    two-near c = go (decLe first c) (decLe (suc first) c) (decLe (suc pen) c)
+      where
+        go : Dec (first ≤ c) → Dec (suc first ≤ c) → Dec (suc pen ≤ c) → Near (prefix twoL c) (val a *ᶠ G c (val lo) (val hi)) acrossError
+        go (no f) x z = two1 c (omega (arith, f))
+        go (yes m) (no f) z = subst (λ (d : ℕ). Near (prefix twoL d) (val a *ᶠ G d (val lo) (val hi)) acrossError) (le-antisymm m (omega (arith, f))) two2
+        go (yes m) (yes x) (no f) = subst (λ (d : ℕ). Near (prefix twoL d) (val a *ᶠ G d (val lo) (val hi)) acrossError) (omega (arith, J, Z, x, f)) two3
+        go (yes m) (yes x) (yes z) = two4 c z
 
-      pub two-adds : (w : ℕ) → Adds w 1 twoL (val lo) (val hi) (val a) acrossError acrossError
-      two-adds w = record {
-        fine = two-fine;
-        near = λ c m. two-near c;
-        size = two-size;
-        few = λ i. rising-once i first twoL two-rises;
-        from = λ i m n. rising-from i first twoL (least i m) two-rises;
-      }
+    pub two-adds : (w : ℕ) → Adds w 1 twoL (val lo) (val hi) (val a) acrossError acrossError
+    two-adds w = record {
+      fine = two-fine;
+      near = λ c m. two-near c;
+      size = two-size;
+      few = λ i. rising-once i first twoL two-rises;
+      from = λ i m n. rising-from i first twoL (least i m) two-rises;
+    }

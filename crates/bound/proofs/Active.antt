@@ -1,4 +1,4 @@
--- L0: the edges that the engine has active in a row are those that cross it. All of it is exact. Assumes nothing.
+-- The active edges of a row are those that cross it: coordinates, rows and comparisons are all exact. Assumes nothing.
 use mathlib.Core.Path.{_≡_, refl, sym, subst}
 use mathlib.Core.Logic.{_⊎_, inl, inr}
 use mathlib.Core.List.{List, [], _∷_}
@@ -196,7 +196,7 @@ module _ (h row : ℕ) (xa ya xb yb d : Float) (A B : Fraction) (H : h ≤ 4096)
       (λ f g. let S = begins f g in one (activeIn row edge) (active-do A B edge S b row (omega arith) (S .least row p) q))
       (λ f. f p q)
 
--- ---- L0
+-- ---- THE ACTIVE EDGES
 module _ (h row : ℕ) (r : WordEdge) (H : h ≤ 4096) (l : row < h) (m : NearEdge r) where
   abbrev x0 : Float
   x0 = coordinateOf (r .«from» .x)

@@ -1,4 +1,4 @@
--- What a piece of an edge adds to a row, and the constants of the proof, each named here once. The paper's table (docs/BOUND.md) has them in bytes. Definitions only.
+-- What a piece of an edge adds to a row, and the constants of the proof, each named here once. docs/BOUND.md has them in bytes. Definitions only.
 use Prim.Native.Nat.{ℕ, _≤_, _<_}
 use mathlib.Core.List.{List}
 use Rattle.fraction.specs.Fraction.{Fraction, _≤ᶠ_, natᶠ, _/2^_, _+ᶠ_, _*ᶠ_, absᶠ, Near}
@@ -53,6 +53,6 @@ edgeError = 481 /2^ 18
 abbrev pub mass : Fraction
 mass = 513 /2^ 9
 
--- ---- the winding, for each edge that counts
+-- ---- the winding, for each edge that counts: its own error, and 2 ^ -10 of its mass for the sums over cells and along the row
 abbrev pub windingError : Fraction
 windingError = 1475 /2^ 19

@@ -1,4 +1,4 @@
--- C1: what one cell holds after its entries, against their exact sum. Each addition is rounded; n entries of a size S together are off by at most 2 ^ -23 of n * S.
+-- What one cell holds after its entries, against their exact sum. Each addition is rounded; n entries of a size S together are off by at most 2 ^ -23 of n * S.
 -- Assumes nothing.
 use mathlib.Core.Path.{_≡_, subst}
 use mathlib.Core.List.{List, [], _∷_}

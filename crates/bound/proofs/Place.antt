@@ -1,5 +1,5 @@
--- Part 1 of the paper: where the engine has an edge at a height is near its crossing. Differences of coordinates are exact (E1 to E3); the slope, its product with the
--- height and the sum are rounded (rounding/proofs/Uses.antt). Assumes nothing.
+-- Where the engine has an edge at a height is near its crossing. Differences of coordinates are exact; the slope, its product with the height and the sum are rounded
+-- (rounding/proofs/Uses.antt). Assumes nothing.
 use mathlib.Core.Path.{_≡_, refl}
 use mathlib.Core.List.{[], _∷_}
 use mathlib.Core.Bool.{false}

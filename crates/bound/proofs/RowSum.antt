@@ -33,7 +33,7 @@ flat entries [] = []
 flat entries (e ∷ es) = entries e ++ flat entries es
 
 module _ {E : Type 0} (entries : E → List Entry) (counts : E → Bool) (exact : E → Fraction) (n : ℕ) where
-  -- what is asked of an edge, for the cells left of n: T, N, how far it is off, and Z where it does not count
+  -- what is asked of an edge, for the cells left of n: the size of its entries, two in a cell at most, and how far they are off. One that does not count has none there
   pub record Good (e : E) : Type 0 where
     pub fine : Fine (entries e)
     pub twice : (i : ℕ) → count (here i) (entries e) ≤ 2
@@ -77,7 +77,7 @@ module _ {E : Type 0} (entries : E → List Entry) (counts : E → Bool) (exact 
   all-near [] g = near-weaken (near-refl (natᶠ 0)) (of-eq (sym≈ (zero-mul edgeError)))
   all-near (e ∷ es) g = near-same (sym≈ (tally-append worth (before n) (entries e) (flat entries es))) (near-weaken (near-add (strays e (g .0)) (all-near es (g .1))) (of-eq (picked (counts e) (number counts es) edgeError)))
 
-  -- ---- THE ROW: k edges that count, each off by 5 / 2 ^ 11 at most, and the two sums
+  -- ---- THE ROW: the winding is off by at most `windingError` for each edge that counts
   pub row-near : (es : List E) → All es → length es ≤ 2048 → n ≤ 4096 → T (finite (wind (λ i. area i f0 (flat entries es)) n)) × T (fits binary32 (wind (λ i. area i f0 (flat entries es)) n))
       × Near (val (wind (λ i. area i f0 (flat entries es)) n)) (sumOver exact es) (natᶠ (number counts es) *ᶠ windingError)
       × Within (val (wind (λ i. area i f0 (flat entries es)) n)) (natᶠ (number counts es) *ᶠ natᶠ 2)

@@ -1,4 +1,5 @@
--- What `span` adds to a row, for any two ends up to 4,097 in size: B, T, N and Z of the paper's part 4. Assumes nothing.
+-- What `span` adds to a row, for any two ends up to 4,097 in size: how far it is off in each cell, the sum of its sizes, two entries in a cell at most (only
+-- in the first of the row), and nothing left of both ends. Assumes nothing.
 use mathlib.Core.List.{List, [], _∷_}
 use mathlib.Core.Bool.{Bool, true, false, not, cond}
 use Prim.Native.Nat.{ℕ, suc, _+_, _≤_}
@@ -61,7 +62,7 @@ module _ (w : ℕ) (small : w ≤ 4096) where
         go false false false true f1 g1 f2 g2 f3 g3 f4 g4 = k4 (g1 tt) (g3 tt) (f4 tt)
         go false false false false f1 g1 f2 g2 f3 g3 f4 g4 = k5 (g3 tt) (g4 tt)
 
-  -- ---- S1 and S2: nothing, or all
+  -- ---- right of the row nothing is added, left of it all
   nothing-adds : (lo hi a : Float) (m : ℕ) (e d : Fraction) → natᶠ 0 ≤ᶠ e → natᶠ 0 ≤ᶠ d → val lo ≤ᶠ val hi → natᶠ w ≤ᶠ val lo → Adds w m [] (val lo) (val hi) (val a) e d
   unfolding prefix total
   nothing-adds lo hi a m e d e0 d0 order right = record {
@@ -100,7 +101,7 @@ module _ (w : ℕ) (small : w ≤ 4096) where
       go true h k = f (h tt)
       go false h k = turn (g (k tt))
 
-  -- ---- level 0: both ends in the row
+  -- ---- both ends in the row
   level0 : (n : ℕ) (xa xb a : Float) → Num xa (natᶠ 4096) → Num xb (natᶠ 4096) → Num a cutTwice → natᶠ 0 ≤ᶠ val xa → natᶠ 0 ≤ᶠ val xb → val xa ≤ᶠ natᶠ w → val xb ≤ᶠ natᶠ w
       → Adds w 1 (spanE w (suc n) xa xb a) (val xa) (val xb) (val a) insideError insideExcess
   level0 n xa xb a X Y A x0 y0 x1 y1 = sorted n 1 xa xb a insideError insideExcess (num-itself X) (num-itself Y) (clip xa xb X Y x0 y1) (clip xb xa Y X y0 x1)
@@ -195,7 +196,7 @@ module _ (w : ℕ) (small : w ≤ 4096) where
       from = λ k p q. inner .from k p (trans p (trans (of-lt lo<w) (of-eq (sym≈ (W-is .eq)))));
     }
 
-  -- ---- level 1: no end left of the row
+  -- ---- no end left of the row
   level1 : (n : ℕ) (xa xb a : Float) → Num xa (natᶠ 4097) → Num xb (natᶠ 4097) → Num a cutOnce → natᶠ 0 ≤ᶠ val xa → natᶠ 0 ≤ᶠ val xb
       → Adds w 1 (spanE w (suc (suc n)) xa xb a) (val xa) (val xb) (val a) rightError rightExcess
   level1 n xa xb a X Y A x0 y0 = sorted (suc n) 1 xa xb a rightError rightExcess (num-itself X) (num-itself Y) (clip xa xb X Y x0) (clip xb xa Y X y0)

@@ -1,4 +1,4 @@
--- C2 and C3: the winding, a running sum of what the cells hold, against the exact sum of the entries left of a column. Assumes nothing.
+-- The winding, a running sum of what the cells hold, against the exact sum of the entries left of a column. Assumes nothing.
 use mathlib.Core.Path.{_≡_, ap, _∙_}
 use mathlib.Core.List.{List, [], _∷_}
 use mathlib.Core.Bool.{Bool}
@@ -45,7 +45,7 @@ bytes-wind eo a (x ∷ xs) j (suc c) h k =
     ∙ bytes-wind eo a xs (suc j) c (le-of-suc-le-suc h) (λ i l. k (suc i) (omega arith) ∙ ap a (omega arith))
     ∙ ap (λ (m : ℕ). coveredOf eo (wind a (suc m))) z
 
--- ---- C3: what is known of the cells: a i is s i but for 2 ^ -11 of S i, and the S add up to at most M
+-- ---- what is known of the cells: a i is s i but for 2 ^ -11 of S i, and the S add up to at most M
 module _ (a : ℕ → Float) (s S : ℕ → Fraction) (M : Fraction) (top : M ≤ᶠ natᶠ (2 ^ 20)) where
   pub record Cell (i : ℕ) : Type 0 where
     pub fine : T (finite (a i))

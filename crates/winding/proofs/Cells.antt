@@ -1,11 +1,11 @@
 -- G(c; x, y): the share of the cell at column c. It errs by no more than x and y do, is from 0 to 1, and has these values, by where the edge is. Assumes nothing.
 use mathlib.Core.Logic.{_⊎_, inl, inr}
 use mathlib.Core.List.{[], _∷_}
-use Prim.Native.Nat.{ℕ, suc, _+_, _≤_, _<_}
+use Prim.Native.Nat.{ℕ, suc, _<_}
 use native.Mathlib.Omega.{arith}
 use Rattle.fraction.specs.Fraction.{Fraction, _≤ᶠ_, _<ᶠ_, _≈ᶠ_, natᶠ, _/2^_, _+ᶠ_, _-ᶠ_, _*ᶠ_, negᶠ, clampᶠ, Near}
-use Rattle.fraction.proofs.Linear.{at-le, at-lt, at-eq, le-at, lt-at, eq-at, add-at, sub-at, scale-at, over, lit≈, trans}
-use Rattle.fraction.proofs.Order.{nat-le, lt-trans, le-lt, zero-mul, of-eq, sym≈, trans≈, antisym, mul-cong, mul-comm, mul-assoc, mul-one, div-mul, inv-mul, cancel-eq, le-or-lt, of-lt, refl≈, sub-above, sub-nonneg}
+use Rattle.fraction.proofs.Linear.{at-le, at-eq, le-at, lt-at, eq-at, add-at, sub-at, scale-at, over, lit≈, trans}
+use Rattle.fraction.proofs.Order.{nat-le, lt-trans, le-lt, zero-mul, of-eq, sym≈, trans≈, antisym, mul-comm, mul-assoc, mul-one, cancel-eq, le-or-lt, of-lt, refl≈, sub-above, sub-nonneg}
 use Rattle.fraction.proofs.Ring.{rep, reps, ring, cong-add, cong-sub, cong-mul}
 use Rattle.fraction.proofs.Clamp.{clamp-inside, clamp-below, clamp-above}
 use Rattle.winding.specs.Winding.{H}
@@ -13,7 +13,7 @@ use Rattle.winding.proofs.MeanOf.{mean, G}
 use Rattle.winding.proofs.Pieces.{H-low, H-inside, H-high}
 use Rattle.winding.proofs.Mean.{mean-area, mean-sym, mean-cong, mean-between, mean-range, mean-near, mean-unique}
 
--- ---- H4
+-- ---- it errs by no more than its ends
 pub G-near : (c : ℕ) {X Y x y d : Fraction} → Near X x d → Near Y y d → Near (G c X Y) (G c x y) d
 unfolding G
 G-near c {X} {Y} {x} {y} {d} h k = mean-near (back h) (back k)
@@ -24,7 +24,7 @@ G-near c {X} {Y} {x} {y} {d} h k = mean-near (back h) (back k)
       hi = le-at N (sub-at N C B) (add-at N (sub-at N C b) D) n (omega (arith, at-le N b (add-at N B D) (h .lo)));
     })
 
--- ---- H5
+-- ---- it is from 0 to 1, does not depend on the order of the ends, nor on how they are written
 pub G-range : (c : ℕ) (x y : Fraction) → (natᶠ 0 ≤ᶠ G c x y) × (G c x y ≤ᶠ natᶠ 1)
 unfolding G
 G-range c x y = mean-range (natᶠ (suc c) -ᶠ x) (natᶠ (suc c) -ᶠ y)
@@ -69,7 +69,7 @@ left-H c x h = H-high (natᶠ (suc c) -ᶠ x) (left-at c x h)
 pub in-H : (c : ℕ) (x : Fraction) → natᶠ c ≤ᶠ x → x ≤ᶠ natᶠ (suc c) → H (natᶠ (suc c) -ᶠ x) ≈ᶠ (natᶠ (suc c) -ᶠ x) *ᶠ (natᶠ (suc c) -ᶠ x) *ᶠ 1 /2^ 1
 in-H c x p q = H-inside (natᶠ (suc c) -ᶠ x) (sub-nonneg q) (over (x ∷ natᶠ (suc c) ∷ natᶠ c ∷ natᶠ 1 ∷ []) (λ N n X C B I. le-at N (sub-at N C X) I n (omega (arith, at-le N B X p, at-eq N C (add-at N B I) (step c)))))
 
--- ---- S1: an edge right of the cell has no share in it
+-- ---- an edge right of the cell has no share in it
 pub G-right : (c : ℕ) (x y : Fraction) → natᶠ (suc c) ≤ᶠ x → natᶠ (suc c) ≤ᶠ y → G c x y ≈ᶠ natᶠ 0
 unfolding G
 G-right c x y p q = go (le-or-lt (natᶠ (suc c) -ᶠ x) (natᶠ (suc c) -ᶠ y))
@@ -82,7 +82,7 @@ G-right c x y p q = go (le-or-lt (natᶠ (suc c) -ᶠ x) (natᶠ (suc c) -ᶠ y)
     go (inr h) = let b = mean-between (natᶠ (suc c) -ᶠ y) (natᶠ (suc c) -ᶠ x) (of-lt h) in
         antisym (trans (of-eq (mean-sym (natᶠ (suc c) -ᶠ x) (natᶠ (suc c) -ᶠ y))) (trans (b .1) (of-eq (at-most x p)))) ((mean-range (natᶠ (suc c) -ᶠ x) (natᶠ (suc c) -ᶠ y)) .0)
 
--- ---- S2: an edge left of the cell has all of it
+-- ---- an edge left of the cell has all of it
 pub G-left : (c : ℕ) (x y : Fraction) → x ≤ᶠ natᶠ c → y ≤ᶠ natᶠ c → G c x y ≈ᶠ natᶠ 1
 unfolding G
 G-left c x y p q = go (le-or-lt (natᶠ (suc c) -ᶠ x) (natᶠ (suc c) -ᶠ y))

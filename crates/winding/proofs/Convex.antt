@@ -1,9 +1,9 @@
--- H lies above each of its tangents, by at most half the square of the distance (H1); hence H is convex, and not more so than a square's half (H2). Assumes nothing.
+-- H lies above each of its tangents, by at most half the square of the distance. Assumes nothing.
 use mathlib.Core.List.{[], _∷_}
 use native.Mathlib.Omega.{arith}
-use Rattle.fraction.specs.Fraction.{Fraction, _≤ᶠ_, _≈ᶠ_, natᶠ, _/2^_, _+ᶠ_, _-ᶠ_, _*ᶠ_, clampᶠ, Near}
-use Rattle.fraction.proofs.Linear.{at-le, at-eq, le-at, eq-at, add-at, over, lit, lit≈, trans}
-use Rattle.fraction.proofs.Order.{refl≤, add-mono, of-eq, sym≈, trans≈, mul-comm, mul-mono, mul-nonneg, mul-one, square-nonneg, refl≈, sub-nonneg}
+use Rattle.fraction.specs.Fraction.{Fraction, _≤ᶠ_, _≈ᶠ_, natᶠ, _/2^_, _+ᶠ_, _-ᶠ_, _*ᶠ_, clampᶠ}
+use Rattle.fraction.proofs.Linear.{at-le, le-at, add-at, over, lit, lit≈, trans}
+use Rattle.fraction.proofs.Order.{of-eq, sym≈, trans≈, mul-comm, mul-nonneg, mul-one, square-nonneg, refl≈}
 use Rattle.fraction.proofs.Ring.{rep, reps, ring, le-by, cong-add, cong-sub, cong-mul}
 use Rattle.fraction.proofs.Clamp.{clamp-cong, clamp-nonneg, clamp-le-one}
 use Rattle.winding.specs.Winding.{H}
@@ -48,7 +48,7 @@ module _ (s t : Fraction) where
   rise-form : rise s t ≈ᶠ 1 /2^ 1 *ᶠ ((k -ᶠ j) *ᶠ (k -ᶠ j)) +ᶠ (t -ᶠ k) *ᶠ (k -ᶠ j)
   rise-form = trans≈ (cong-sub (cong-sub (H-by t) (H-by s)) (refl≈ (clampᶠ s *ᶠ (t -ᶠ s)))) (form t s k j (1 /2^ 1) (unfold _+ᶠ_ in lit≈ tt))
 
-  -- ---- H1
+  -- ---- from 0 to half the square
   pub rise-nonneg : natᶠ 0 ≤ᶠ rise s t
   rise-nonneg =
       let a = half-nonneg (square-nonneg (k -ᶠ j)) in
@@ -65,27 +65,3 @@ module _ (s t : Fraction) where
 -- ---- equal numbers have an equal H
 pub H-cong : {s t : Fraction} → s ≈ᶠ t → H s ≈ᶠ H t
 H-cong {s} {t} e = trans≈ (H-by s) (trans≈ (cong-sub (cong-mul e (clamp-cong e)) (cong-mul (cong-mul (clamp-cong e) (clamp-cong e)) (refl≈ (1 /2^ 1)))) (sym≈ (H-by t)))
-
--- ---- H2: for a, b, c in this order, (b - a) H(c) + (c - b) H(a) - (c - a) H(b) is from 0 to (b - a)(c - b)(c - a) / 2
-abbrev pub bend : Fraction → Fraction → Fraction → Fraction
-bend a b c = (b -ᶠ a) *ᶠ H c +ᶠ (c -ᶠ b) *ᶠ H a -ᶠ (c -ᶠ a) *ᶠ H b
-
--- the tangent at b cancels
-bend-form : (a b c : Fraction) → bend a b c ≈ᶠ (b -ᶠ a) *ᶠ rise b c +ᶠ (c -ᶠ b) *ᶠ rise b a
-bend-form a b c =
-    let ρ = a ∷ b ∷ c ∷ H a ∷ H b ∷ H c ∷ clampᶠ b ∷ [] in
-    let R = reps ρ in
-    ring ρ (search rep depth 9) (search rep depth 9) tt
-
-pub bend-nonneg : (a b c : Fraction) → a ≤ᶠ b → b ≤ᶠ c → natᶠ 0 ≤ᶠ bend a b c
-bend-nonneg a b c p q =
-    let l = mul-nonneg (sub-nonneg p) (rise-nonneg b c) in
-    let m = mul-nonneg (sub-nonneg q) (rise-nonneg b a) in
-    trans (over ((b -ᶠ a) *ᶠ rise b c ∷ (c -ᶠ b) *ᶠ rise b a ∷ natᶠ 0 ∷ []) (λ N n A B O. le-at N O (add-at N A B) n (omega (arith, O .is, at-le N O A l, at-le N O B m)))) (of-eq (sym≈ (bend-form a b c)))
-
-pub bend-le : (a b c : Fraction) → a ≤ᶠ b → b ≤ᶠ c → bend a b c ≤ᶠ 1 /2^ 1 *ᶠ ((b -ᶠ a) *ᶠ (c -ᶠ b) *ᶠ (c -ᶠ a))
-bend-le a b c p q =
-    let ρ = a ∷ b ∷ c ∷ 1 /2^ 1 ∷ [] in
-    let R = reps ρ in
-    trans (of-eq (bend-form a b c)) (trans (add-mono (mul-mono (sub-nonneg p) (rise-le b c)) (mul-mono (sub-nonneg q) (rise-le b a)))
-    (of-eq (ring ρ {x = (b -ᶠ a) *ᶠ (1 /2^ 1 *ᶠ ((c -ᶠ b) *ᶠ (c -ᶠ b))) +ᶠ (c -ᶠ b) *ᶠ (1 /2^ 1 *ᶠ ((a -ᶠ b) *ᶠ (a -ᶠ b)))} {y = 1 /2^ 1 *ᶠ ((b -ᶠ a) *ᶠ (c -ᶠ b) *ᶠ (c -ᶠ a))} (search rep depth 9) (search rep depth 9) tt)))

@@ -9,7 +9,7 @@ use native.Mathlib.Decide.{decLe}
 use native.Mathlib.Omega.{arith}
 use Rattle.fraction.specs.Whole.{natʷ, sizeʷ}
 use Rattle.fraction.specs.Fraction.{Fraction, _≤ᶠ_, _<ᶠ_, _≈ᶠ_, ltᵇ, natᶠ, _+ᶠ_, _-ᶠ_, absᶠ, minᶠ, Near}
-use Rattle.fraction.proofs.Linear.{At, at-le, at-lt, at-eq, le-at, eq-at, add-at, sub-at, abs-at, self, over, lit, trans}
+use Rattle.fraction.proofs.Linear.{At, at-le, at-lt, at-eq, le-at, eq-at, add-at, sub-at, abs-at, self, over, trans}
 use Rattle.fraction.proofs.Order.{of-eq, of-lt, le-or-lt, sym≈, trans≈}
 use Rattle.fraction.proofs.Abs.{abs-nonneg}
 use Rattle.fraction.proofs.Clamp.{min-at, min-left, min-right, min-le-left, min-le-right, near-min, if-less, if-not-less}

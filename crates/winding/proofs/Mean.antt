@@ -1,4 +1,4 @@
--- D(u, v): `mean`. Its product with v - u is H(v) - H(u), it lies between the held u and v, does not depend on their order, and grows with each of them by at most half as much (H3, H5). Assumes nothing.
+-- D(u, v): `mean`. Its product with v - u is H(v) - H(u), it lies between the held u and v, does not depend on their order, and grows with each of them by at most half as much. Assumes nothing.
 use mathlib.Core.Path.{_≡_, refl}
 use mathlib.Core.Logic.{_⊎_, inl, inr}
 use mathlib.Core.List.{[], _∷_}
@@ -67,7 +67,7 @@ mean-level u v e = go (mean-is u v)
     go (slope (inl h) m) = absurd (lt-not h (sym≈ e))
     go (slope (inr h) m) = absurd (lt-not h e)
 
--- ---- H5: the order of u and v does not matter
+-- ---- the order of u and v does not matter
 pub mean-sym : (u v : Fraction) → mean u v ≈ᶠ mean v u
 mean-sym u v = mean-unique u v (mean v u) (λ e. trans≈ (mean-level v u (sym≈ e)) (clamp-cong (sym≈ e)))
     (let ρ = mean v u ∷ u ∷ v ∷ H u ∷ H v ∷ [] in
@@ -220,7 +220,7 @@ module _ (a b c : Fraction) (p : a ≤ᶠ b) (q : b ≤ᶠ c) where
       go (inr h) = let d = part-of (b -ᶠ a) (Q -ᶠ M) (sub-nonneg p) (sub-above h) short-right in
           over (M ∷ Q ∷ natᶠ 0 ∷ 1 /2^ 1 *ᶠ (b -ᶠ a) ∷ []) (λ N n X Y O J. (le-at N X Y n (omega (arith, O .is, at-le N O (sub-at N Y X) (d .0))), le-at N Y (add-at N X J) n (omega (arith, at-le N (sub-at N Y X) J (d .1)))))
 
--- ---- H3: the mean grows with u, by at most half as much
+-- ---- the mean grows with u, by at most half as much
 pub mean-grows : (u w v : Fraction) → u ≤ᶠ w → (mean u v ≤ᶠ mean w v) × (mean w v ≤ᶠ mean u v +ᶠ 1 /2^ 1 *ᶠ (w -ᶠ u))
 mean-grows u w v le = go (le-or-lt v u) (le-or-lt v w)
   where
@@ -233,10 +233,7 @@ mean-grows u w v le = go (le-or-lt v u) (le-or-lt v w)
     go (inr h) (inl k) = worth (refl≈ (mean u v)) (mean-sym v w) (turn u v w (of-lt h) k)
     go (inr h) (inr k) = right u w v le (of-lt k)
 
-pub mean-mono : {u v U W : Fraction} → u ≤ᶠ U → v ≤ᶠ W → mean u v ≤ᶠ mean U W
-mean-mono {u} {v} {U} {W} h k = trans ((mean-grows u U v h) .0) (le-cong (mean-sym v U) (mean-sym W U) ((mean-grows v W U k) .0))
-
--- ---- H3 as an error: half of the error of u
+-- ---- as an error: half of the error of u
 pub mean-near-first : {u w e : Fraction} (v : Fraction) → Near u w e → Near (mean u v) (mean w v) (1 /2^ 1 *ᶠ e)
 mean-near-first {u} {w} {e} v h = go (le-or-lt u w)
   where
@@ -260,7 +257,7 @@ mean-near-second {v} {w} {e} u h = let d = mean-near-first u h in over (mean u v
 pub mean-near : {u v U W e : Fraction} → Near u U e → Near v W e → Near (mean u v) (mean U W) e
 mean-near {u} {v} {U} {W} {e} h k = near-weaken (near-trans (mean-near-first v h) (mean-near-second U k)) (over (e ∷ 1 /2^ 1 *ᶠ e ∷ []) (λ N n E I. le-at N (add-at N I I) E n (omega (arith, scale-at N (1 /2^ 1) E I))))
 
--- ---- H5: between the held ends, so from 0 to 1
+-- ---- between the held ends, so from 0 to 1
 pub mean-between : (u v : Fraction) → u ≤ᶠ v → (clampᶠ u ≤ᶠ mean u v) × (mean u v ≤ᶠ clampᶠ v)
 mean-between u v h = ((at-first u v h) .0, (at-last u v h) .1)
 

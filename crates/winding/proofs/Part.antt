@@ -1,19 +1,17 @@
--- The paper's part of an edge in a cell, by G: its height in the row times G of the two crossings, with its sign. An edge right of the cell has none. Assumes nothing.
+-- Document 01's part of an edge in a cell, by G: its height in the row times G of the two crossings, with its sign. Assumes nothing.
 use mathlib.Core.Path.{_≡_, refl}
 use mathlib.Core.Logic.{_⊎_, inl, inr}
 use mathlib.Core.List.{[], _∷_}
-use mathlib.Core.Bool.{Bool, true, false, not, cond}
-use Prim.Native.Nat.{ℕ, suc, _+_, _*_}
+use mathlib.Core.Bool.{cond}
+use Prim.Native.Nat.{ℕ, suc}
 use native.Mathlib.Omega.{arith}
-use Rattle.fraction.specs.Fraction.{Fraction, _≤ᶠ_, _<ᶠ_, _≈ᶠ_, ltᵇ, natᶠ, _+ᶠ_, _-ᶠ_, _*ᶠ_, _/ᶠ_, negᶠ, minᶠ, maxᶠ, Near, Within}
-use Rattle.fraction.proofs.Linear.{at-le, at-eq, le-at, eq-at, add-at, sub-at, neg-at, over, trans}
-use Rattle.fraction.proofs.Order.{above-not, refl≤, of-eq, sym≈, trans≈, antisym, mul-cong, mul-comm, mul-mono, mul-nonneg, mul-one, zero-mul, div-mul, le-or-lt, of-lt, refl≈, sub-above, sub-nonneg}
+use Rattle.fraction.specs.Fraction.{Fraction, _≤ᶠ_, _<ᶠ_, _≈ᶠ_, ltᵇ, natᶠ, _+ᶠ_, _-ᶠ_, _*ᶠ_, _/ᶠ_, negᶠ, minᶠ, maxᶠ, Within}
+use Rattle.fraction.proofs.Linear.{at-le, at-eq, le-at, eq-at, add-at, sub-at, over, trans}
+use Rattle.fraction.proofs.Order.{above-not, of-eq, sym≈, trans≈, mul-comm, mul-nonneg, div-mul, le-or-lt, of-lt, refl≈, sub-above, sub-nonneg}
 use Rattle.fraction.proofs.Ring.{rep, reps, ring, cong-add}
-use Rattle.fraction.proofs.Near.{near-by, near-weaken, within-self}
 use Rattle.fraction.proofs.Clamp.{if-less, if-not-less, min-le-left, min-le-right, max-ge-left, max-ge-right}
 use Rattle.winding.specs.Winding.{ExactPoint, integral, crossing, downPart, exactPart}
 use Rattle.winding.proofs.MeanOf.{mean, G}
-use Rattle.winding.proofs.Cells.{G-near, G-right}
 
 -- the part of the edge from one point to another
 abbrev pub part : ExactPoint → ExactPoint → ℕ → ℕ → Fraction
@@ -56,28 +54,6 @@ pub part-level : (a b : ExactPoint) (c r : ℕ) → a .y ≈ᶠ b .y → part a 
 unfolding exactPart
 part-level a b c r e = rw (if-not-less (a .y) (b .y) (downPart a b c r) (cond (ltᵇ (b .y) (a .y)) (negᶠ (downPart b a c r)) (natᶠ 0)) (of-eq (sym≈ e)), if-not-less (b .y) (a .y) (negᶠ (downPart b a c r)) (natᶠ 0) (of-eq e)) refl
 
--- ---- an edge that crosses the row right of the cell has no part in it
-pub down-right : (a b : ExactPoint) (c r : ℕ) → natᶠ (suc c) ≤ᶠ crossing a b (top a r) → natᶠ (suc c) ≤ᶠ crossing a b (bottom b r) → downPart a b c r ≈ᶠ natᶠ 0
-down-right a b c r p q = go (le-or-lt (bottom b r) (top a r))
-  where
-    go : (bottom b r ≤ᶠ top a r) ⊎ (top a r <ᶠ bottom b r) → downPart a b c r ≈ᶠ natᶠ 0
-    go (inl h) = rw (down-none a b c r h) (refl≈ (natᶠ 0))
-    go (inr h) = rw (down-is a b c r h) (let d = bottom b r -ᶠ top a r in trans≈ (mul-cong d (G-right c (crossing a b (top a r)) (crossing a b (bottom b r)) p q)) (trans≈ (mul-comm d (natᶠ 0)) (zero-mul d)))
-
-pub part-right : (a b : ExactPoint) (c r : ℕ)
-    → (a .y <ᶠ b .y → (natᶠ (suc c) ≤ᶠ crossing a b (top a r)) × (natᶠ (suc c) ≤ᶠ crossing a b (bottom b r)))
-    → (b .y <ᶠ a .y → (natᶠ (suc c) ≤ᶠ crossing b a (top b r)) × (natᶠ (suc c) ≤ᶠ crossing b a (bottom a r)))
-    → part a b c r ≈ᶠ natᶠ 0
-part-right a b c r f g = go (le-or-lt (a .y) (b .y)) (le-or-lt (b .y) (a .y))
-  where
-    neg-none : {x : Fraction} → x ≈ᶠ natᶠ 0 → negᶠ x ≈ᶠ natᶠ 0
-    neg-none {x} e = over (x ∷ natᶠ 0 ∷ []) (λ N n X O. eq-at N (neg-at N X) O n (omega (arith, O .is, at-eq N X O e)))
-
-    go : (a .y ≤ᶠ b .y) ⊎ (b .y <ᶠ a .y) → (b .y ≤ᶠ a .y) ⊎ (a .y <ᶠ b .y) → part a b c r ≈ᶠ natᶠ 0
-    go (inl h) (inl k) = rw (part-level a b c r (antisym h k)) (refl≈ (natᶠ 0))
-    go (inl h) (inr k) = rw (part-down a b c r k) (down-right a b c r ((f k) .0) ((f k) .1))
-    go (inr h) k = rw (part-up a b c r h) (neg-none (down-right b a c r ((g h) .0) ((g h) .1)))
-
 -- ---- the part of an edge that crosses the row, down and up
 pub part-down-is : (a b : ExactPoint) (c r : ℕ) → a .y <ᶠ b .y → top a r <ᶠ bottom b r → part a b c r ≡ share a b c r
 part-down-is a b c r h k = rw (part-down a b c r h, down-is a b c r k) refl
@@ -98,16 +74,6 @@ height-le a b r = over (top a r ∷ bottom b r ∷ natᶠ r ∷ natᶠ (suc r) �
   where
     one-up : natᶠ (suc r) ≈ᶠ natᶠ r +ᶠ natᶠ 1
     one-up = unfold _+ᶠ_ in record { eq = omega arith }
-
--- ---- H4 for a part: ends that are off by d put the part off by no more than the height times d, so than d
-pub share-near : (a b : ExactPoint) (c r : ℕ) {X Y d : Fraction} → top a r ≤ᶠ bottom b r → Near X (crossing a b (top a r)) d → Near Y (crossing a b (bottom b r)) d
-    → Near ((bottom b r -ᶠ top a r) *ᶠ G c X Y) (share a b c r) ((bottom b r -ᶠ top a r) *ᶠ d)
-share-near a b c r l h k = near-by (G-near c h k) (within-self (sub-nonneg l))
-
-pub share-near-one : (a b : ExactPoint) (c r : ℕ) {X Y d : Fraction} → natᶠ 0 ≤ᶠ d → top a r ≤ᶠ bottom b r → Near X (crossing a b (top a r)) d → Near Y (crossing a b (bottom b r)) d
-    → Near ((bottom b r -ᶠ top a r) *ᶠ G c X Y) (share a b c r) d
-share-near-one a b c r {d = d} p l h k = let w = bottom b r -ᶠ top a r in
-    near-weaken (share-near a b c r l h k) (trans (of-eq (mul-comm w d)) (trans (mul-mono p (height-le a b r)) (of-eq (mul-one d))))
 
 -- ---- the crossing: at the ends, and between two heights
 pub slope-of : ExactPoint → ExactPoint → Fraction

@@ -1,6 +1,5 @@
 -- H and its slope, t held between 0 and 1 (K below), by pieces; then the two facts that replace the pieces: 2 H(t) = 2 t K - K * K, and (t - K) * (K - j) is not negative
 -- for any j from 0 to 1. Assumes nothing.
-use mathlib.Core.Path.{_≡_}
 use mathlib.Core.Logic.{_⊎_, inl, inr}
 use mathlib.Core.List.{[], _∷_}
 use mathlib.Core.Bool.{Bool, true, false, not, cond}

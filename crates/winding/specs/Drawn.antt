@@ -1,4 +1,4 @@
--- What document 01's reckoner holds for a cell of a done drawing ('The reckoner', second item), and the statement about one drawing. Definitions only.
+-- What document 01's reckoner holds for a cell of a done drawing ('The reckoner', second item). Definitions only.
 use mathlib.Core.List.{List, [], _∷_}
 use mathlib.Core.Bool.{cond}
 use Prim.Native.Nat.{ℕ, _+_}
