@@ -5,10 +5,10 @@ use mathlib.Core.List.{List, [], _∷_, _++_}
 use mathlib.Core.Bool.{Bool, true, false, not}
 use Prim.Native.Nat.{ℕ, zero, suc, _+_, _-_, _*_, _^_, _≤_, _<_, min}
 use native.Mathlib.Decide.{decLe}
-use native.Mathlib.Nat.{le-refl, le-antisymm, le-of-suc-le-suc, lt-of-mul-lt-mul-right}
+use native.Mathlib.Nat.{le-refl, le-antisymm, le-of-suc-le-suc, lt-of-mul-lt-mul-right, zero-min}
 use native.Mathlib.Omega.{arith}
-use lib.Dec.{T, ltb, lit≤}
-use lib.Ieee.{Float, binary32}
+use lib.Dec.{T, ltb, lit≤, ltb→lt, nltb→le}
+use lib.Ieee.{Float, binary32, fits}
 use lib.Ieee.Fits.{sub-fits, mul-fits}
 use lib.Ieee.Scale.{finite}
 use Rattle.fraction.specs.Whole.{natʷ, sizeʷ, _-ʷ_}
@@ -38,11 +38,24 @@ use Rattle.bound.proofs.Floor.{floor-sub, apart}
 use Rattle.bound.proofs.OneCell.{one, sized, size-of}
 use Rattle.bound.proofs.Products.{approx-weaken, approx-same, approx-exact, approx-rounds, approx-known, leafOf, Fit, product}
 
+-- the errors of the first and the last amount, of one between them, of all the even ones together, and of all but the last
+abbrev endError : Fraction
+endError = 1 /2^ 17
+
+abbrev middleError : Fraction
+middleError = 1 /2^ 16
+
+abbrev evenError : Fraction
+evenError = 1 /2^ 19
+
+abbrev restError : Fraction
+restError = 11 /2^ 18
+
 -- ---- entries of one amount in n cells from i on
 prefix-even : (n i : ℕ) (f : Float) (c : ℕ) → tally worth (before (suc c)) (evenE n i f) ≈ᶠ natᶠ (min n (c + 1 - i)) *ᶠ val f
 unfolding evenE
-prefix-even zero i f c = rw (native.Mathlib.Nat.zero-min (c + 1 - i)) (sym≈ (zero-mul (val f)))
-prefix-even (suc n) i f c = go (ltb i (suc c)) (lib.Dec.ltb→lt i (suc c)) (lib.Dec.nltb→le i (suc c)) (prefix-even n (i + 1) f c)
+prefix-even zero i f c = rw (zero-min (c + 1 - i)) (sym≈ (zero-mul (val f)))
+prefix-even (suc n) i f c = go (ltb i (suc c)) (ltb→lt i (suc c)) (nltb→le i (suc c)) (prefix-even n (i + 1) f c)
   where
     go : (b : Bool) → (T b → i < suc c) → (T (not b) → suc c ≤ i) → tally worth (before (suc c)) (evenE n (i + 1) f) ≈ᶠ natᶠ (min n (c + 1 - (i + 1))) *ᶠ val f
         → pick b (val f) +ᶠ tally worth (before (suc c)) (evenE n (i + 1) f) ≈ᶠ natᶠ (min (suc n) (c + 1 - i)) *ᶠ val f
@@ -65,7 +78,7 @@ total-even (suc n) i f = let ih = total-even n (i + 1) f in
     over (absᶠ (val f) ∷ tally size anywhere (evenE n (i + 1) f) ∷ natᶠ n *ᶠ absᶠ (val f) ∷ natᶠ (suc n) *ᶠ absᶠ (val f) ∷ []) (λ N p A P J K.
     eq-at N (add-at N A P) K p (omega (arith, at-eq N P J ih, at-eq N K (add-at N J A) (one-more n (absᶠ (val f))))))
 
-fine-even : (n i : ℕ) (f : Float) → T (finite f) → T (lib.Ieee.fits binary32 f) → Fine (evenE n i f)
+fine-even : (n i : ℕ) (f : Float) → T (finite f) → T (fits binary32 f) → Fine (evenE n i f)
 unfolding evenE
 fine-even zero i f p q = tt
 fine-even (suc n) i f p q = (p, q, fine-even n (i + 1) f p q)
@@ -255,16 +268,16 @@ module _ (lo hi : Float) (first pen j : ℕ) (a : Float) (Lo : Num lo (natᶠ 40
   amount = sized a cutTwice A
 
   -- ---- the first entry and the last
-  x1-ok : T (finite (a ⊗ head)) × Near (val (a ⊗ head)) (val a *ᶠ h) (1 /2^ 17)
+  x1-ok : T (finite (a ⊗ head)) × Near (val (a ⊗ head)) (val a *ᶠ h) endError
   unfolding _+ᶠ_ _*ᶠ_
   x1-ok = let d = analyse (op times auto (leaf amount) (leaf head-l)) tt (tt, tt, tt, tt) in (d .fine, near-weaken (d .near) (lit tt))
 
-  x5-ok : T (finite (a ⊗ tail)) × Near (val (a ⊗ tail)) (val a *ᶠ t) (1 /2^ 17)
+  x5-ok : T (finite (a ⊗ tail)) × Near (val (a ⊗ tail)) (val a *ᶠ t) endError
   unfolding _+ᶠ_ _*ᶠ_
   x5-ok = let d = analyse (op times auto (leaf amount) (leaf tail-l)) tt (tt, tt, tt, tt) in (d .fine, near-weaken (d .near) (lit tt))
 
   -- the one in the middle, of two cells
-  x2-two : T (finite (a ⊗ (f1 ⊖ head ⊖ tail))) × Near (val (a ⊗ (f1 ⊖ head ⊖ tail))) (val a *ᶠ (natᶠ 1 -ᶠ h -ᶠ t)) (1 /2^ 16)
+  x2-two : T (finite (a ⊗ (f1 ⊖ head ⊖ tail))) × Near (val (a ⊗ (f1 ⊖ head ⊖ tail))) (val a *ᶠ (natᶠ 1 -ᶠ h -ᶠ t)) middleError
   unfolding one _+ᶠ_ _*ᶠ_
   x2-two = let d = analyse (op times auto (leaf amount) (op minus auto (op minus auto (leaf one) (leaf head-l)) (leaf tail-l))) tt (tt, tt, tt, (tt, tt, (tt, tt, tt, tt), tt)) in (d .fine, near-weaken (d .near) (lit tt))
 
@@ -359,14 +372,14 @@ module _ (lo hi : Float) (first pen j : ℕ) (a : Float) (Lo : Num lo (natᶠ 40
     abbrev x2 : Float
     x2 = a ⊗ (secondOf per enters ⊖ head)
 
-    x2-ok : T (finite x2) × Near (val x2) (val a *ᶠ (s -ᶠ h)) (1 /2^ 16)
+    x2-ok : T (finite x2) × Near (val x2) (val a *ᶠ (s -ᶠ h)) middleError
     unfolding _+ᶠ_ _*ᶠ_
     x2-ok = let d = analyse (op times auto (leaf amount) (op minus auto (leaf (leafOf second-ok)) (leaf head-l))) tt (tt, tt, tt, (tt, tt, tt, tt)) in (d .fine, near-weaken (d .near) (lit tt))
 
     abbrev x4 : Float
     x4 = a ⊗ (f1 ⊖ (secondOf per enters ⊕ ofWhole k ⊗ per) ⊖ tail)
 
-    x4-ok : T (finite x4) × Near (val x4) (val a *ᶠ (natᶠ 1 -ᶠ (s +ᶠ q) -ᶠ t)) (1 /2^ 16)
+    x4-ok : T (finite x4) × Near (val x4) (val a *ᶠ (natᶠ 1 -ᶠ (s +ᶠ q) -ᶠ t)) middleError
     unfolding one _+ᶠ_ _*ᶠ_
     x4-ok =
         let d = analyse (op times auto (leaf amount) (op minus auto (op minus auto (leaf one) (op plus auto (leaf (leafOf second-ok)) (leaf (leafOf between-ok)))) (leaf tail-l))) tt
@@ -380,7 +393,7 @@ module _ (lo hi : Float) (first pen j : ℕ) (a : Float) (Lo : Num lo (natᶠ 40
     x3-ok = product cutTwice (natᶠ (2 ^ 24)) (1 /2^ 21) (1 /2^ 147) (approx-self binary32 a (A .fine) (A .held)) per-ok (A .within) r-within (unfold Fit in (tt, tt, tt, tt, tt, tt, tt, tt))
 
     -- i of them
-    x3-times : (i : ℕ) → i ≤ k → Near (natᶠ i *ᶠ val x3) (val a *ᶠ (r *ᶠ natᶠ i)) (1 /2^ 19)
+    x3-times : (i : ℕ) → i ≤ k → Near (natᶠ i *ᶠ val x3) (val a *ᶠ (r *ᶠ natᶠ i)) evenError
     x3-times i m =
         let z : natᶠ 0 ≤ᶠ natᶠ i = record { le = omega arith } in
         let b : r *ᶠ natᶠ i ≤ᶠ natᶠ 1 = trans (mul-mono r-nonneg (record { le = omega (arith, m) })) q-le in
@@ -394,7 +407,7 @@ module _ (lo hi : Float) (first pen j : ℕ) (a : Float) (Lo : Num lo (natᶠ 40
         (trans (of-eq (ring ρ {x = natᶠ i *ᶠ (Q *ᶠ (C *ᶠ r) +ᶠ T)} {y = Q *ᶠ C *ᶠ (r *ᶠ natᶠ i) +ᶠ T *ᶠ natᶠ i} (search rep depth 9) (search rep depth 9) tt))
         (trans (add-mono (mul-mono (unfold _*ᶠ_ in lit tt) b) (mul-mono (lit tt) (record { le = omega (arith, m, k-le) }))) small)))
       where
-        small : 1 /2^ 21 *ᶠ cutTwice *ᶠ natᶠ 1 +ᶠ 1 /2^ 147 *ᶠ natᶠ 4096 ≤ᶠ 1 /2^ 19
+        small : 1 /2^ 21 *ᶠ cutTwice *ᶠ natᶠ 1 +ᶠ 1 /2^ 147 *ᶠ natᶠ 4096 ≤ᶠ evenError
         small = unfold _+ᶠ_ _*ᶠ_ in lit tt
 
     -- ---- the list
@@ -461,7 +474,7 @@ module _ (lo hi : Float) (first pen j : ℕ) (a : Float) (Lo : Num lo (natᶠ 40
         let sum = ring ρ {x = B *ᶠ h +ᶠ (B *ᶠ (s -ᶠ h) +ᶠ (B *ᶠ q +ᶠ (B *ᶠ (natᶠ 1 -ᶠ (s +ᶠ q) -ᶠ t) +ᶠ B *ᶠ t)))} {y = B} (search rep depth 9) (search rep depth 9) tt in
         let w = add-mono (size-of (val a) h (h-small .0) (x1-ok .1)) (add-mono (size-of (val a) (s -ᶠ h) step2 (x2-ok .1)) (add-mono (size-of (val a) q q-nonneg (x3-times k (le-refl k)))
         (add-mono (size-of (val a) (natᶠ 1 -ᶠ (s +ᶠ q) -ᶠ t) step4 (x4-ok .1)) (size-of (val a) t (t-small .0) (x5-ok .1))))) in
-        trans (of-eq total-is) (trans w (over (B ∷ B *ᶠ h ∷ B *ᶠ (s -ᶠ h) ∷ B *ᶠ q ∷ B *ᶠ (natᶠ 1 -ᶠ (s +ᶠ q) -ᶠ t) ∷ B *ᶠ t ∷ 1 /2^ 17 ∷ 1 /2^ 16 ∷ 1 /2^ 19 ∷ acrossError ∷ []) (λ N n b y1 y2 y3 y4 y5 e17 e16 e19 e14.
+        trans (of-eq total-is) (trans w (over (B ∷ B *ᶠ h ∷ B *ᶠ (s -ᶠ h) ∷ B *ᶠ q ∷ B *ᶠ (natᶠ 1 -ᶠ (s +ᶠ q) -ᶠ t) ∷ B *ᶠ t ∷ endError ∷ middleError ∷ evenError ∷ acrossError ∷ []) (λ N n b y1 y2 y3 y4 y5 e17 e16 e19 e14.
         le-at N (search at depth 9) (search at depth 9) n (omega (arith, e17 .is, e16 .is, e19 .is, e14 .is, at-eq N (add-at N y1 (add-at N y2 (add-at N y3 (add-at N y4 y5)))) b sum)))))
 
     more-rises : Rising first moreL
@@ -539,7 +552,7 @@ module _ (lo hi : Float) (first pen j : ℕ) (a : Float) (Lo : Num lo (natᶠ 40
         of-lt {x} {y} h = over (x ∷ y ∷ []) (λ N n X Y. le-at N X Y n (omega (arith, at-lt N X Y n h)))
 
     -- the sum of all but the last entry
-    all-but : Near (val (a ⊗ head) +ᶠ (val x2 +ᶠ (natᶠ k *ᶠ val x3 +ᶠ val x4))) (val a *ᶠ (natᶠ 1 -ᶠ t)) (11 /2^ 18)
+    all-but : Near (val (a ⊗ head) +ᶠ (val x2 +ᶠ (natᶠ k *ᶠ val x3 +ᶠ val x4))) (val a *ᶠ (natᶠ 1 -ᶠ t)) restError
     all-but =
         let ρ = val a ∷ h ∷ s ∷ q ∷ t ∷ [] in
         let R = reps ρ in
@@ -635,7 +648,7 @@ module _ (lo hi : Float) (first pen j : ℕ) (a : Float) (Lo : Num lo (natᶠ 40
         let R = reps ρ in
         let sum = ring ρ {x = B *ᶠ h +ᶠ (B *ᶠ (natᶠ 1 -ᶠ h -ᶠ t) +ᶠ B *ᶠ t)} {y = B} (search rep depth 9) (search rep depth 9) tt in
         let w = add-mono (size-of (val a) h (h-small .0) (x1-ok .1)) (add-mono (size-of (val a) (natᶠ 1 -ᶠ h -ᶠ t) two-step (x2-two .1)) (add-mono (size-of (val a) t (t-small .0) (x5-ok .1)) (refl≤ (natᶠ 0)))) in
-        trans w (over (B ∷ B *ᶠ h ∷ B *ᶠ (natᶠ 1 -ᶠ h -ᶠ t) ∷ B *ᶠ t ∷ 1 /2^ 17 ∷ 1 /2^ 16 ∷ acrossError ∷ natᶠ 0 ∷ []) (λ N n b y1 y2 y5 e17 e16 e14 o.
+        trans w (over (B ∷ B *ᶠ h ∷ B *ᶠ (natᶠ 1 -ᶠ h -ᶠ t) ∷ B *ᶠ t ∷ endError ∷ middleError ∷ acrossError ∷ natᶠ 0 ∷ []) (λ N n b y1 y2 y5 e17 e16 e14 o.
         le-at N (search at depth 9) (search at depth 9) n (omega (arith, o .is, e17 .is, e16 .is, e14 .is, at-eq N (add-at N y1 (add-at N y2 y5)) b sum))))
 
     two1 : (c : ℕ) → c < first → Near (prefix twoL c) (val a *ᶠ G c (val lo) (val hi)) acrossError
@@ -656,7 +669,7 @@ module _ (lo hi : Float) (first pen j : ℕ) (a : Float) (Lo : Num lo (natᶠ 40
         nothing : (x : Fraction) → x +ᶠ (natᶠ 0 +ᶠ natᶠ 0) ≈ᶠ x
         nothing x = over (x ∷ natᶠ 0 ∷ []) (λ N n X O. eq-at N (search at) X n (omega (arith, O .is)))
 
-    two-but : Near (val (a ⊗ head) +ᶠ val y2) (val a *ᶠ (natᶠ 1 -ᶠ t)) (11 /2^ 18)
+    two-but : Near (val (a ⊗ head) +ᶠ val y2) (val a *ᶠ (natᶠ 1 -ᶠ t)) restError
     two-but =
         let ρ = val a ∷ h ∷ t ∷ [] in
         let R = reps ρ in

@@ -2,7 +2,7 @@
 use mathlib.Core.Path.{_≡_, refl, sym, subst}
 use mathlib.Core.Logic.{_⊎_, inl, inr}
 use mathlib.Core.List.{List, [], _∷_}
-use mathlib.Core.Bool.{Bool, true, false, not, cond, _&&_, _||_}
+use mathlib.Core.Bool.{Bool, true, false, not, cond, _&&_, _||_, true≢false}
 use Prim.Native.Nat.{ℕ, zero, suc, _*_, _^_, _≤_, _<_}
 use native.Mathlib.Nat.{mul-pos, le-of-suc-le-suc}
 use native.Mathlib.Decide.{decLe}
@@ -68,8 +68,8 @@ by-256 (fin s m e) t n p h l = subst (λ (y : Float). Is (signedᶠ t n 256 (lit
 
 -- within the limit
 or-no : (a b : Bool) → a || b ≡ false → T (not a) × T (not b)
-or-no true b t = absurd (mathlib.Core.Bool.true≢false t)
-or-no false true t = absurd (mathlib.Core.Bool.true≢false t)
+or-no true b t = absurd (true≢false t)
+or-no false true t = absurd (true≢false t)
 or-no false false t = (tt, tt)
 
 pub pos-near : (n : ℕ) → beyond (pos n) ≡ false → n ≤ 1048576

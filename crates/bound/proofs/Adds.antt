@@ -21,6 +21,13 @@ cutOnce = 2097153 /2^ 21
 abbrev pub cutTwice : Fraction
 cutTwice = 1048577 /2^ 20
 
+-- the error of a quotient of size 1 at most, and of the height times it
+abbrev pub quotientError : Fraction
+quotientError = 1 /2^ 22
+
+abbrev pub cutError : Fraction
+cutError = 1 /2^ 21
+
 -- the errors of a piece across cells, of one within the row, of one that is cut at the right, and of any; and by how much the sizes pass the height
 abbrev pub acrossError : Fraction
 acrossError = 1 /2^ 14
@@ -53,6 +60,16 @@ edgeError = 481 /2^ 18
 abbrev pub mass : Fraction
 mass = 513 /2^ 9
 
--- ---- the winding, for each edge that counts: its own error, and 2 ^ -10 of its mass for the sums over cells and along the row
+-- ---- the sums, as parts of the sizes summed: of a cell, for each of its entries; of a cell, for all; of the winding
+abbrev pub entryPart : Fraction
+entryPart = 1 /2^ 23
+
+abbrev pub cellPart : Fraction
+cellPart = 1 /2^ 11
+
+abbrev pub sumPart : Fraction
+sumPart = 1 /2^ 10
+
+-- ---- the winding, for each edge that counts: its own error, and `sumPart` of its mass
 abbrev pub windingError : Fraction
 windingError = 1475 /2^ 19

@@ -9,7 +9,7 @@ use lib.Dec.{T}
 use lib.Ieee.{Float, binary32, emax, fits, eq, ne}
 use lib.Ieee.Fits.{add-fits}
 use lib.Ieee.Scale.{finite}
-use Rattle.fraction.specs.Fraction.{Fraction, _≤ᶠ_, _≈ᶠ_, natᶠ, _/2^_, _+ᶠ_, _*ᶠ_, absᶠ, Near, Within}
+use Rattle.fraction.specs.Fraction.{Fraction, _≤ᶠ_, _≈ᶠ_, natᶠ, _+ᶠ_, _*ᶠ_, absᶠ, Near, Within}
 use Rattle.fraction.proofs.Linear.{at, at-le, at-eq, le-at, eq-at, add-at, neg-at, scale-at, over, trans, lit}
 use Rattle.fraction.proofs.Order.{of-eq, sym≈, trans≈, refl≈, mul-mono, mul-mono-right, mul-cong, one-more, nat-le}
 use Rattle.fraction.proofs.Near.{near-weaken, within-add, within-same, within-weaken}
@@ -18,6 +18,7 @@ use Rattle.rounding.specs.Value.{val, roundoff}
 use Rattle.rounding.proofs.Round.{near-to, sum-near}
 use Rattle.rounding.proofs.Ops.{add-rounds}
 use Rattle.float.specs.Ops.{_⊕_, f0}
+use Rattle.bound.proofs.Adds.{entryPart}
 use Rattle.bound.proofs.Entries.{Entry, Fine, pick, tally, count, worth, size, here, plus-none, tally-nonneg, bump, area}
 use Rattle.bound.proofs.Numbers.{itself, zero-is, eq-yes}
 
@@ -25,7 +26,7 @@ use Rattle.bound.proofs.Numbers.{itself, zero-is, eq-yes}
 pub record Holds (a : Float) (s S : Fraction) (n : ℕ) : Type 0 where
   pub fine : T (finite a)
   pub held : T (fits binary32 a)
-  pub near : Near (val a) s (1 /2^ 23 *ᶠ (natᶠ n *ᶠ S))
+  pub near : Near (val a) s (entryPart *ᶠ (natᶠ n *ᶠ S))
   pub size : Within s S
 
 pub within-nonneg : {s S : Fraction} → Within s S → natᶠ 0 ≤ᶠ S
@@ -56,8 +57,8 @@ module _ (a f : Float) (s S : Fraction) (n : ℕ) (h : Holds a s S n) (p : T (fi
 
   -- the exact sum before the rounding is at most twice the sizes
   wide : Within (val a +ᶠ val f) (S +ᶠ absᶠ (val f) +ᶠ (S +ᶠ absᶠ (val f)))
-  wide = over (val a ∷ val f ∷ s ∷ S ∷ absᶠ (val f) ∷ natᶠ n *ᶠ S ∷ natᶠ n *ᶠ (S +ᶠ absᶠ (val f)) ∷ natᶠ 4096 *ᶠ (S +ᶠ absᶠ (val f)) ∷ 1 /2^ 23 *ᶠ (natᶠ n *ᶠ S) ∷ natᶠ 0 ∷ []) (λ N m A f' s' X Y P P' M E O.
-      let e = scale-at N (1 /2^ 23) P E in
+  wide = over (val a ∷ val f ∷ s ∷ S ∷ absᶠ (val f) ∷ natᶠ n *ᶠ S ∷ natᶠ n *ᶠ (S +ᶠ absᶠ (val f)) ∷ natᶠ 4096 *ᶠ (S +ᶠ absᶠ (val f)) ∷ entryPart *ᶠ (natᶠ n *ᶠ S) ∷ natᶠ 0 ∷ []) (λ N m A f' s' X Y P P' M E O.
+      let e = scale-at N entryPart P E in
       let k = scale-at N (natᶠ 4096) (add-at N X Y) M in
       let g = at-le N P P' grown in
       let g' = at-le N P' M few in
@@ -78,10 +79,10 @@ module _ (a f : Float) (s S : Fraction) (n : ℕ) (h : Holds a s S n) (p : T (fi
         fine = R .fine;
         held = add-fits binary32 a f;
         size = size-more;
-        near = over (val (a ⊕ f) ∷ val a ∷ val f ∷ s ∷ S ∷ absᶠ (val f) ∷ natᶠ n *ᶠ S ∷ natᶠ n *ᶠ (S +ᶠ absᶠ (val f)) ∷ natᶠ (suc n) *ᶠ (S +ᶠ absᶠ (val f)) ∷ 1 /2^ 23 *ᶠ (natᶠ n *ᶠ S) ∷ 1 /2^ 23 *ᶠ (natᶠ (suc n) *ᶠ (S +ᶠ absᶠ (val f))) ∷ roundoff binary32 *ᶠ (S +ᶠ absᶠ (val f) +ᶠ (S +ᶠ absᶠ (val f))) ∷ [])
+        near = over (val (a ⊕ f) ∷ val a ∷ val f ∷ s ∷ S ∷ absᶠ (val f) ∷ natᶠ n *ᶠ S ∷ natᶠ n *ᶠ (S +ᶠ absᶠ (val f)) ∷ natᶠ (suc n) *ᶠ (S +ᶠ absᶠ (val f)) ∷ entryPart *ᶠ (natᶠ n *ᶠ S) ∷ entryPart *ᶠ (natᶠ (suc n) *ᶠ (S +ᶠ absᶠ (val f))) ∷ roundoff binary32 *ᶠ (S +ᶠ absᶠ (val f) +ᶠ (S +ᶠ absᶠ (val f))) ∷ [])
             (λ N m Z A f' s' X Y P P' Q E E' U.
-            let e = scale-at N (1 /2^ 23) P E in
-            let e' = scale-at N (1 /2^ 23) Q E' in
+            let e = scale-at N entryPart P E in
+            let e' = scale-at N entryPart Q E' in
             let u = scale-at N (roundoff binary32) (add-at N (add-at N X Y) (add-at N X Y)) U in
             let g = at-le N P P' grown in
             let j = at-eq N Q (add-at N P' (add-at N X Y)) (one-more n (S +ᶠ absᶠ (val f))) in
@@ -104,10 +105,10 @@ module _ (a f : Float) (s S : Fraction) (n : ℕ) (h : Holds a s S n) (z : val f
         fine = h .fine;
         held = h .held;
         size = within-add (h .size) (within-abs (val f));
-        near = over (val a ∷ val f ∷ s ∷ S ∷ absᶠ (val f) ∷ natᶠ n *ᶠ S ∷ natᶠ n *ᶠ (S +ᶠ absᶠ (val f)) ∷ natᶠ (suc n) *ᶠ (S +ᶠ absᶠ (val f)) ∷ 1 /2^ 23 *ᶠ (natᶠ n *ᶠ S) ∷ 1 /2^ 23 *ᶠ (natᶠ (suc n) *ᶠ (S +ᶠ absᶠ (val f))) ∷ natᶠ 0 ∷ [])
+        near = over (val a ∷ val f ∷ s ∷ S ∷ absᶠ (val f) ∷ natᶠ n *ᶠ S ∷ natᶠ n *ᶠ (S +ᶠ absᶠ (val f)) ∷ natᶠ (suc n) *ᶠ (S +ᶠ absᶠ (val f)) ∷ entryPart *ᶠ (natᶠ n *ᶠ S) ∷ entryPart *ᶠ (natᶠ (suc n) *ᶠ (S +ᶠ absᶠ (val f))) ∷ natᶠ 0 ∷ [])
             (λ N m A f' s' X Y P P' Q E E' O.
-            let e = scale-at N (1 /2^ 23) P E in
-            let e' = scale-at N (1 /2^ 23) Q E' in
+            let e = scale-at N entryPart P E in
+            let e' = scale-at N entryPart Q E' in
             let g = at-le N P P' grown in
             let k = at-eq N Q (add-at N P' (add-at N X Y)) j in
             let y = at-le N O Y F0 in
@@ -126,7 +127,7 @@ holds-same {a} {s} {S} {s'} {S'} {n} {n'} p q r h =
     record {
       fine = h .fine;
       held = h .held;
-      near = near-to p (near-weaken (h .near) (of-eq (mul-cong (1 /2^ 23) k)));
+      near = near-to p (near-weaken (h .near) (of-eq (mul-cong entryPart k)));
       size = within-weaken (within-same p (h .size)) (of-eq q);
     }
 

@@ -4,9 +4,9 @@ use mathlib.Core.Logic.{_≢_}
 use mathlib.Core.List.{List, [], _∷_, _++_}
 use mathlib.Core.Bool.{Bool, true, false, not, cond}
 use Prim.Native.Nat.{ℕ, zero, suc, _+_, _≤_, _<_}
-use native.Mathlib.Nat.{not-suc-le-zero, le-of-suc-le-suc}
+use native.Mathlib.Nat.{not-suc-le-zero, le-of-suc-le-suc, not-le-of-lt}
 use native.Mathlib.Omega.{arith}
-use lib.Dec.{T, ltb, eqb, eqb→eq, ltb→lt, nltb→le, lt→ltb, eqb-refl, eqb·suc-suc, eqb·zero-suc, eqb·suc-zero}
+use lib.Dec.{T, ltb, eqb, eqb→eq, ltb→lt, nltb→le, lt→ltb, eqb-refl, eqb·suc-suc, eqb·zero-suc, eqb·suc-zero, T-not, not-T}
 use lib.Ieee.Bits.{is-true, is-false}
 use lib.ListN.{length, getD, set, length-set}
 use lib.Ieee.{Float, nan, binary32, fits, ne}
@@ -157,13 +157,13 @@ pick-in i n x h = go (ltb i n) (nltb→le i n)
   where
     go : (b : Bool) → (T (not b) → n ≤ i) → pick b x ≈ᶠ x
     go true g = refl≈ x
-    go false g = absurd (native.Mathlib.Nat.not-le-of-lt h (g tt))
+    go false g = absurd (not-le-of-lt h (g tt))
 
 pub pick-out : (i n : ℕ) (x : Fraction) → n ≤ i → pick (ltb i n) x ≈ᶠ natᶠ 0
 pick-out i n x h = go (ltb i n) (ltb→lt i n)
   where
     go : (b : Bool) → (T b → i < n) → pick b x ≈ᶠ natᶠ 0
-    go true g = absurd (native.Mathlib.Nat.not-le-of-lt (g tt) h)
+    go true g = absurd (not-le-of-lt (g tt) h)
     go false g = refl≈ (natᶠ 0)
 
 -- entries from column n on count for none left of it
@@ -214,13 +214,13 @@ sum-none zero = refl≈ (natᶠ 0)
 sum-none (suc n) = let i = sum-none n in over (sumᶠ n (λ i. natᶠ 0) ∷ natᶠ 0 ∷ []) (λ N m S O. eq-at N (add-at N S O) O m (omega (arith, O .is, at-eq N S O i)))
 
 eqb-no : (j n : ℕ) → (j ≡ n → ⊥) → eqb j n ≡ false
-eqb-no j n f = is-false (eqb j n) (lib.Dec.not-T (eqb j n) (λ t. f (eqb→eq j n t)))
+eqb-no j n f = is-false (eqb j n) (not-T (eqb j n) (λ t. f (eqb→eq j n t)))
 
 ltb-yes : (j n : ℕ) → j < n → ltb j n ≡ true
 ltb-yes j n h = is-true (ltb j n) (lt→ltb j n h)
 
 ltb-no : (j n : ℕ) → n ≤ j → ltb j n ≡ false
-ltb-no j n h = is-false (ltb j n) (lib.Dec.not-T (ltb j n) (λ t. native.Mathlib.Nat.not-le-of-lt (ltb→lt j n t) h))
+ltb-no j n h = is-false (ltb j n) (not-T (ltb j n) (λ t. not-le-of-lt (ltb→lt j n t) h))
 
 -- one term more
 pick-step : (n j : ℕ) (x : Fraction) → sumᶠ n (λ i. pick (eqb j i) x) ≈ᶠ pick (ltb j n) x → sumᶠ n (λ i. pick (eqb j i) x) +ᶠ pick (eqb j n) x ≈ᶠ pick (ltb j (suc n)) x
@@ -239,7 +239,7 @@ pick-step n j x i = go (eqb j n) refl (ltb j n) refl
     go false p false q = put false false false p q (ltb-no j (suc n) (omega (arith, nltb→le j n (subst (λ (z : Bool). T (not z)) (sym q) tt), apart))) (plus-none (natᶠ 0))
       where
         apart : j ≢ n
-        apart h = lib.Dec.T-not (eqb j n) (subst (λ (z : Bool). T (not z)) (sym p) tt) (subst (λ (z : ℕ). T (eqb j z)) h (eqb-refl j))
+        apart h = T-not (eqb j n) (subst (λ (z : Bool). T (not z)) (sym p) tt) (subst (λ (z : ℕ). T (eqb j z)) h (eqb-refl j))
 
 -- only the cell's own term is there
 sum-pick : (n j : ℕ) (x : Fraction) → sumᶠ n (λ i. pick (eqb j i) x) ≈ᶠ pick (ltb j n) x

@@ -1,4 +1,5 @@
 -- Where `lo - floor(lo)` is exact, and a lower bound of hi - lo across a whole number. A float from 1/2 on is a whole number of 2 ^ -24. Assumes nothing.
+use lib.Ieee.Fits.{down-pos}
 use mathlib.Core.Path.{_≡_, refl, ap, _∙_}
 use mathlib.Core.List.{[], _∷_}
 use mathlib.Core.Bool.{Bool, true, false, not}
@@ -44,7 +45,7 @@ grain (inf s) p t h = absurd p
 grain (fin true m e) p t h = absurd (no m e (h .le))
   where
     no : (m : ℕ) (e : ℤ) → 1 * down e + (m * up e) * 2 ≤ 0 * 2 + 0 * down e → ⊥
-    no m e h = omega (arith, h, lib.Ieee.Fits.down-pos e)
+    no m e h = omega (arith, h, down-pos e)
 grain (fin false zero e) p t h = record { z = natʷ 0; is = omega arith }
 grain (fin false (suc m) (pos k)) p t h = record { z = natʷ (suc m * 2 ^ k * 2 ^ 24); is = omega arith }
 grain (fin false (suc m) (negsuc k)) p t h =

@@ -1,4 +1,5 @@
 -- A piece within one cell: the entries' values are near the exact shares. The large error of `span` is half of lo + hi, at x near 4096. Assumes nothing.
+use native.Mathlib.Nat.{le-of-suc-le-suc, le-refl, lt-of-mul-lt-mul-right}
 use mathlib.Core.Path.{_≡_, sym, subst}
 use mathlib.Core.List.{[], _∷_}
 use Prim.Native.Nat.{ℕ, suc, _+_, _≤_}
@@ -8,7 +9,7 @@ use lib.Dec.{ltb}
 use lib.Ieee.{Float, binary32, ofBits, fits}
 use Rattle.fraction.specs.Fraction.{Fraction, _≤ᶠ_, _<ᶠ_, _≈ᶠ_, natᶠ, _/2^_, _+ᶠ_, _-ᶠ_, _*ᶠ_, absᶠ, Near, Within}
 use Rattle.fraction.proofs.Linear.{at, at-le, at-lt, at-eq, le-at, eq-at, add-at, sub-at, scale-at, over, lit, trans}
-use Rattle.fraction.proofs.Order.{of-eq, sym≈, trans≈, mul-cong, mul-comm, mul-one, mul-sub, zero-mul, sub-nonneg}
+use Rattle.fraction.proofs.Order.{of-eq, sym≈, trans≈, mul-cong, mul-comm, mul-one, mul-sub, zero-mul, sub-nonneg, add-mono, refl≤}
 use Rattle.fraction.proofs.Near.{near-refl, near-weaken, near-same, near-trans, near-add, near-sub, near-by, within-weaken, within-near, within-self, abs-of-within}
 use Rattle.fraction.proofs.Abs.{within-abs, abs-mul, abs-self}
 use Rattle.rounding.specs.Value.{val}
@@ -48,7 +49,17 @@ sized v b h = given binary32 v b (h .fine) (h .held) (h .within)
 -- what is near a part of a, in size
 pub size-of : {x e : Fraction} (a m : Fraction) → natᶠ 0 ≤ᶠ m → Near x (a *ᶠ m) e → absᶠ x ≤ᶠ absᶠ a *ᶠ m +ᶠ e
 size-of {x} {e} a m p h = trans (abs-of-within (within-near h (within-abs (a *ᶠ m))))
-    (Rattle.fraction.proofs.Order.add-mono (of-eq (trans≈ (abs-mul a m) (mul-cong (absᶠ a) (abs-self p)))) (Rattle.fraction.proofs.Order.refl≤ e))
+    (add-mono (of-eq (trans≈ (abs-mul a m) (mul-cong (absᶠ a) (abs-self p)))) (refl≤ e))
+
+-- the errors of the middle, of an amount, and of both together, where the middle's cancels
+abbrev middleError : Fraction
+middleError = 8196 /2^ 24
+
+abbrev singleError : Fraction
+singleError = 8204 /2^ 24
+
+abbrev bothError : Fraction
+bothError = 10 /2^ 24
 
 module _ (lo hi : Float) (first : ℕ) (a : Float) (Lo : Num lo (natᶠ 4096)) (Hi : Num hi (natᶠ 4096)) (A : Num a cutTwice) (F : first ≤ 4096)
     (from : natᶠ first ≤ᶠ val lo) (order : val lo ≤ᶠ val hi) (to : val hi ≤ᶠ natᶠ (suc first)) (below : val lo <ᶠ natᶠ (suc first)) where
@@ -73,7 +84,7 @@ module _ (lo hi : Float) (first : ℕ) (a : Float) (Lo : Num lo (natᶠ 4096)) (
   unfolding half
   middle = op minus (known (natᶠ 1)) (op times auto (leaf half) (op plus auto (leaf (sized lo (natᶠ 4096) Lo)) (leaf (sized hi (natᶠ 4096) Hi)))) (leaf (number first F))
 
-  middle-known : Known binary32 m M (natᶠ 1) (8196 /2^ 24)
+  middle-known : Known binary32 m M (natᶠ 1) middleError
   unfolding middle half _+ᶠ_ _*ᶠ_
   middle-known = let d = analyse middle tt (M-within, tt, (tt, tt, tt, (tt, tt, tt, tt)), tt) in record { fine = d .fine; held = d .held; near = near-weaken (d .near) (lit tt); within = d .within }
 
@@ -104,13 +115,13 @@ module _ (lo hi : Float) (first : ℕ) (a : Float) (Lo : Num lo (natᶠ 4096)) (
   right-known = let d = analyse right-e tt (tt, tt, tt, tt) in record { fine = d .fine; held = d .held; near = near-weaken (d .near) (lit tt); within = d .within }
 
   -- the exact shares
-  left-near : Near (val left) (val a *ᶠ (natᶠ 1 -ᶠ M)) (8204 /2^ 24)
+  left-near : Near (val left) (val a *ᶠ (natᶠ 1 -ᶠ M)) singleError
   left-near = near-weaken (near-trans (left-known .near) (near-by (near-sub (near-refl (natᶠ 1)) (middle-known .near)) (A .within))) (unfold _+ᶠ_ _*ᶠ_ in lit tt)
 
-  right-near : Near (val right) (val a *ᶠ M) (8204 /2^ 24)
+  right-near : Near (val right) (val a *ᶠ M) singleError
   right-near = near-weaken (near-trans (right-known .near) (near-by (middle-known .near) (A .within))) (unfold _+ᶠ_ _*ᶠ_ in lit tt)
 
-  both-near : Near (val left +ᶠ val right) (val a) (10 /2^ 24)
+  both-near : Near (val left +ᶠ val right) (val a) bothError
   both-near = near-weaken (near-to all (near-add (left-known .near) (right-known .near))) (unfold _+ᶠ_ in lit tt)
     where
       all : val a *ᶠ (natᶠ 1 -ᶠ val m) +ᶠ val a *ᶠ val m ≈ᶠ val a
@@ -122,7 +133,7 @@ module _ (lo hi : Float) (first : ℕ) (a : Float) (Lo : Num lo (natᶠ 4096)) (
   unfolding total
   sizes =
       let B = absᶠ (val a) in
-      over (absᶠ (val left) ∷ absᶠ (val right) ∷ B *ᶠ (natᶠ 1 -ᶠ M) ∷ B *ᶠ M ∷ B *ᶠ natᶠ 1 ∷ B ∷ 8204 /2^ 24 ∷ insideExcess ∷ natᶠ 0 ∷ []) (λ N n l r x y z b k t o.
+      over (absᶠ (val left) ∷ absᶠ (val right) ∷ B *ᶠ (natᶠ 1 -ᶠ M) ∷ B *ᶠ M ∷ B *ᶠ natᶠ 1 ∷ B ∷ singleError ∷ insideExcess ∷ natᶠ 0 ∷ []) (λ N n l r x y z b k t o.
       le-at N (add-at N l (add-at N r o)) (add-at N b t) n (omega (
         arith,
         o .is,
@@ -155,7 +166,7 @@ module _ (lo hi : Float) (first : ℕ) (a : Float) (Lo : Num lo (natᶠ 4096)) (
       go (yes h) (no f) =
           let e : c ≡ first = omega (arith, h, f) in
           let g : G c (val lo) (val hi) ≈ᶠ natᶠ 1 -ᶠ M = subst (λ (t : ℕ). G t (val lo) (val hi) ≈ᶠ natᶠ 1 -ᶠ M) (sym e) (G-inside first (val lo) (val hi) order from to) in
-          over (pick (ltb first (suc c)) (val left) ∷ pick (ltb (first + 1) (suc c)) (val right) ∷ natᶠ 0 ∷ val a *ᶠ G c (val lo) (val hi) ∷ val a *ᶠ (natᶠ 1 -ᶠ M) ∷ insideError ∷ val left ∷ 8204 /2^ 24 ∷ []) (λ N n X Y Z W O T L Q.
+          over (pick (ltb first (suc c)) (val left) ∷ pick (ltb (first + 1) (suc c)) (val right) ∷ natᶠ 0 ∷ val a *ᶠ G c (val lo) (val hi) ∷ val a *ᶠ (natᶠ 1 -ᶠ M) ∷ insideError ∷ val left ∷ singleError ∷ []) (λ N n X Y Z W O T L Q.
           let i = at-eq N X L (pick-in first (suc c) (val left) (omega (arith, h))) in
           let j = at-eq N Y Z (pick-out (first + 1) (suc c) (val right) (omega (arith, f))) in
           let k = at-eq N W O (mul-cong (val a) g) in
@@ -166,7 +177,7 @@ module _ (lo hi : Float) (first : ℕ) (a : Float) (Lo : Num lo (natᶠ 4096)) (
       go (yes h) (yes f) =
           let left-of : val hi ≤ᶠ natᶠ c = trans to (record { le = omega (arith, f) }) in
           let g : val a *ᶠ G c (val lo) (val hi) ≈ᶠ val a = trans≈ (mul-cong (val a) (G-left c (val lo) (val hi) (trans order left-of) left-of)) (mul-one (val a)) in
-          over (pick (ltb first (suc c)) (val left) ∷ pick (ltb (first + 1) (suc c)) (val right) ∷ natᶠ 0 ∷ val a *ᶠ G c (val lo) (val hi) ∷ val a ∷ insideError ∷ val left ∷ val right ∷ 10 /2^ 24 ∷ []) (λ N n X Y Z W O T L R Q.
+          over (pick (ltb first (suc c)) (val left) ∷ pick (ltb (first + 1) (suc c)) (val right) ∷ natᶠ 0 ∷ val a *ᶠ G c (val lo) (val hi) ∷ val a ∷ insideError ∷ val left ∷ val right ∷ bothError ∷ []) (λ N n X Y Z W O T L R Q.
           let i = at-eq N X L (pick-in first (suc c) (val left) (omega (arith, h))) in
           let j = at-eq N Y R (pick-in (first + 1) (suc c) (val right) (omega (arith, f))) in
           let k = at-eq N W O g in
@@ -176,7 +187,7 @@ module _ (lo hi : Float) (first : ℕ) (a : Float) (Lo : Num lo (natᶠ 4096)) (
           })
 
   single-rises : Rising first (singleE first m a)
-  single-rises = (native.Mathlib.Nat.le-refl first, (omega arith, tt))
+  single-rises = (le-refl first, (omega arith, tt))
 
   pub single-adds : (w : ℕ) → Adds w 1 (singleE first m a) (val lo) (val hi) (val a) insideError insideExcess
   single-adds w = record {
@@ -188,4 +199,4 @@ module _ (lo hi : Float) (first : ℕ) (a : Float) (Lo : Num lo (natᶠ 4096)) (
   }
     where
       least : (k : ℕ) → natᶠ k ≤ᶠ val lo → k ≤ first
-      least k h = over (natᶠ k ∷ natᶠ (suc first) ∷ val lo ∷ []) (λ N n K Q L. native.Mathlib.Nat.le-of-suc-le-suc (native.Mathlib.Nat.lt-of-mul-lt-mul-right N (omega (arith, K .is, Q .is, at-le N K L h, at-lt N L Q n below))))
+      least k h = over (natᶠ k ∷ natᶠ (suc first) ∷ val lo ∷ []) (λ N n K Q L. le-of-suc-le-suc (lt-of-mul-lt-mul-right N (omega (arith, K .is, Q .is, at-le N K L h, at-lt N L Q n below))))

@@ -12,7 +12,7 @@ use lib.Ieee.{Float, binary32, lt, eq}
 use lib.Ieee.Fits.{mul-fits, neg-fits}
 use Rattle.fraction.specs.Whole.{natʷ, negʷ, sizeʷ, _-ʷ_, _*ʷ_, _≤ʷ_}
 use Rattle.fraction.specs.Fraction.{Fraction, _≤ᶠ_, _<ᶠ_, _≈ᶠ_, ltᵇ, natᶠ, _+ᶠ_, _-ᶠ_, _*ᶠ_, negᶠ, minᶠ, Near, Within}
-use Rattle.fraction.proofs.Linear.{At, at-le, at-eq, at-same, le-at, eq-at, add-at, sub-at, neg-at, over, lit, trans}
+use Rattle.fraction.proofs.Linear.{At, at-le, at-eq, at-same, le-at, eq-at, add-at, sub-at, neg-at, over, lit, trans, lit<ᶠ}
 use Rattle.fraction.proofs.Order.{of-eq, of-lt, refl≤, refl≈, sym≈, trans≈, antisym, add-mono, mul-comm, mul-cong, mul-neg, mul-one, zero-mul, le-or-lt, lt-not-le, le-lt, lt-le, sub-nonneg, nat-le}
 use Rattle.fraction.proofs.Near.{near-trans, near-weaken, near-by, within-weaken, within-self, within-same, abs-of-within}
 use Rattle.fraction.proofs.Clamp.{min-at, max-at, max-ge-left, max-ge-right, min-le-left, min-le-right, no≤}
@@ -27,7 +27,7 @@ use Rattle.winding.specs.Winding.{ExactPoint, ExactEdge, exactCoordinate, exact
 use Rattle.winding.proofs.MeanOf.{G}
 use Rattle.winding.proofs.Cells.{G-near, G-right}
 use Rattle.winding.proofs.Part.{top, bottom, share, part-down-is, part-up-is, height-le}
-use Rattle.winding.proofs.Crosses.{crosses-yes, crosses-down, crosses-up}
+use Rattle.winding.proofs.Crosses.{crosses-yes, crosses-down, crosses-up, of-less}
 use Rattle.float.specs.Ops.{_⊖_, _⊗_, f1, f-1}
 use Rattle.float.specs.Simple.{minOf, maxOf}
 use Rattle.float.specs.Whole.{ofWhole}
@@ -299,7 +299,7 @@ module _ (w h row : ℕ) (r : WordEdge) (W : w ≤ 4096) (H : h ≤ 4096) (l : r
       (cond-no (eq (coordinateOf (r .«from» .y)) (coordinateOf (r .to .y))) [] (cond (lt (coordinateOf (r .«from» .y)) (coordinateOf (r .to .y))) downs ups) (λ e. lt-not-le o (of-eq (sym≈ (eq-yes a0 b0 e))))
       ∙ cond-yes (lt (coordinateOf (r .«from» .y)) (coordinateOf (r .to .y))) downs ups (lt-do a0 b0 o) ∙ made p q f1 (m .«from») (m .to) o k)
       (λ c. to-eq (part-down-is (exactPoint p) (exactPoint q) c row o k))
-      (λ c. cond-yes (ltᵇ A B) (leftOf (exactPoint p) (exactPoint q) c row) (leftOf (exactPoint q) (exactPoint p) c row) (Rattle.winding.proofs.Crosses.of-less A B o))
+      (λ c. cond-yes (ltᵇ A B) (leftOf (exactPoint p) (exactPoint q) c row) (leftOf (exactPoint q) (exactPoint p) c row) (of-less A B o))
 
   -- y falls
   facts-up : B <ᶠ A → EdgeFacts w h row r
@@ -310,7 +310,7 @@ module _ (w h row : ℕ) (r : WordEdge) (W : w ≤ 4096) (H : h ≤ 4096) (l : r
       (cond-no (eq (coordinateOf (r .«from» .y)) (coordinateOf (r .to .y))) [] (cond (lt (coordinateOf (r .«from» .y)) (coordinateOf (r .to .y))) downs ups) (λ e. lt-not-le o (of-eq (eq-yes a0 b0 e)))
       ∙ cond-no (lt (coordinateOf (r .«from» .y)) (coordinateOf (r .to .y))) downs ups (λ e. lt-not-le o (of-lt (lt-yes a0 b0 e))) ∙ made q p f-1 (m .to) (m .«from») o k)
       (λ c. to-eq (part-up-is (exactPoint p) (exactPoint q) c row o k))
-      (λ c. cond-no (ltᵇ A B) (leftOf (exactPoint p) (exactPoint q) c row) (leftOf (exactPoint q) (exactPoint p) c row) (λ e. lt-not-le o (of-lt (Rattle.fraction.proofs.Linear.lit<ᶠ {x = A} {y = B} e))))
+      (λ c. cond-no (ltᵇ A B) (leftOf (exactPoint p) (exactPoint q) c row) (leftOf (exactPoint q) (exactPoint p) c row) (λ e. lt-not-le o (of-lt (lit<ᶠ {x = A} {y = B} e))))
 
   pub edge-facts : EdgeFacts w h row r
   edge-facts = go (le-or-lt A B) (le-or-lt B A)

@@ -19,9 +19,9 @@ use Rattle.rounding.specs.Rounding.{Rounds}
 use Rattle.rounding.proofs.Round.{near-to, step}
 use Rattle.rounding.proofs.Ops.{div-rounds}
 use Rattle.rounding.proofs.Analyse.{Known, Leaf, leaf, op, minus, times, auto, known, analyse}
-use Rattle.rounding.proofs.Relative.{Approx, once, spread, productRel, productTiny, rounds-rel, mul-approx, rel-not}
+use Rattle.rounding.proofs.Relative.{Approx, once, spread, productRel, productTiny, rounds-rel, mul-approx, rel-not, approx-self}
 use Rattle.float.specs.Ops.{_⊖_, _⊗_, _⊘_, f1}
-use Rattle.bound.proofs.Adds.{cutTwice}
+use Rattle.bound.proofs.Adds.{cutTwice, quotientError, cutError}
 use Rattle.bound.proofs.Numbers.{Num, Exact}
 use Rattle.bound.proofs.OneCell.{one, sized}
 
@@ -37,7 +37,7 @@ approx-same {r = r} {t} q h = record {
 }
 
 pub approx-exact : {x : Float} {X : Fraction} → Exact X x → Approx binary32 x X (natᶠ 0) (natᶠ 0)
-approx-exact {x} h = approx-same (h .eq) (Rattle.rounding.proofs.Relative.approx-self binary32 x (h .fine) (h .held))
+approx-exact {x} h = approx-same (h .eq) (approx-self binary32 x (h .fine) (h .held))
 
 pub approx-rounds : {x : Float} {X t : Fraction} → Rounds binary32 t X x → T (fits binary32 x) → Approx binary32 x X (roundoff binary32) t
 approx-rounds h q = record { fine = h .fine; held = q; rel = rounds-rel h }
@@ -96,7 +96,7 @@ module _ (x y : Float) (X Y Q : Fraction) (A : Approx binary32 x X u (natᶠ 0))
       none : (r s b c : Fraction) → (natᶠ 1 +ᶠ s) *ᶠ natᶠ 0 *ᶠ c +ᶠ (natᶠ 1 +ᶠ r) *ᶠ natᶠ 0 *ᶠ b +ᶠ natᶠ 0 *ᶠ natᶠ 0 ≈ᶠ natᶠ 0
       none r s b c = let ρ = r ∷ s ∷ b ∷ c ∷ [] in let R = reps ρ in ring ρ (search rep depth 9) (search rep depth 9) tt
 
-  pub quotient : Known binary32 (x ⊘ y) Q (natᶠ 1) (1 /2^ 22)
+  pub quotient : Known binary32 (x ⊘ y) Q (natᶠ 1) quotientError
   quotient =
       let r = div-rounds binary32 x y (val x *ᶠ invᶠ (val y)) (A .fine) (B .fine) divisor (trans≈ (mul-assoc (val x) (invᶠ (val y)) (val y)) (trans≈ (mul-cong (val x) (inv-mul (val y) divisor)) (mul-one (val x))))
       (within-weaken (within-near quotient-near Q1) (unfold _+ᶠ_ in lit tt)) in
@@ -117,8 +117,8 @@ module _ (N D : Fraction) (N0 : natᶠ 0 ≤ᶠ N) (D0 : natᶠ 0 <ᶠ D) (N≤D
   part-hi = trans (mul-mono-right (inv-nonneg D D0) N≤D) (trans (of-eq (mul-comm D (invᶠ D))) (of-eq (inv-mul D (above-not D0))))
 
 -- ---- the height times a part, and times the rest
-module _ (a o : Float) (O : Fraction) (A : Num a cutTwice) (h : Known binary32 o O (natᶠ 1) (1 /2^ 22)) (O0 : natᶠ 0 ≤ᶠ O) (O1 : O ≤ᶠ natᶠ 1) where
-  pub cut-in : T (finite (a ⊗ o)) × Near (val (a ⊗ o)) (val a *ᶠ O) (1 /2^ 21)
+module _ (a o : Float) (O : Fraction) (A : Num a cutTwice) (h : Known binary32 o O (natᶠ 1) quotientError) (O0 : natᶠ 0 ≤ᶠ O) (O1 : O ≤ᶠ natᶠ 1) where
+  pub cut-in : T (finite (a ⊗ o)) × Near (val (a ⊗ o)) (val a *ᶠ O) cutError
   unfolding _+ᶠ_ _*ᶠ_
   cut-in = let d = analyse (op times auto (leaf (sized a cutTwice A)) (leaf (leafOf h))) tt (tt, tt, tt, tt) in (d .fine, near-weaken (d .near) (lit tt))
 
@@ -128,7 +128,7 @@ module _ (a o : Float) (O : Fraction) (A : Num a cutTwice) (h : Known binary32 o
   pub rest-hi : natᶠ 1 -ᶠ O ≤ᶠ natᶠ 1
   rest-hi = over (natᶠ 0 ∷ natᶠ 1 ∷ O ∷ []) (λ N n Z I X. le-at N (sub-at N I X) I n (omega (arith, Z .is, at-le N Z X O0)))
 
-  pub cut-out : T (finite (a ⊗ (f1 ⊖ o))) × Near (val (a ⊗ (f1 ⊖ o))) (val a *ᶠ (natᶠ 1 -ᶠ O)) (1 /2^ 21)
+  pub cut-out : T (finite (a ⊗ (f1 ⊖ o))) × Near (val (a ⊗ (f1 ⊖ o))) (val a *ᶠ (natᶠ 1 -ᶠ O)) cutError
   unfolding one _+ᶠ_ _*ᶠ_
   cut-out =
       let d = analyse (op times auto (leaf (sized a cutTwice A)) (op minus (known (natᶠ 1)) (leaf one) (leaf (leafOf h)))) tt (tt, tt, tt, (within-weaken (within-self rest-lo) rest-hi, tt, tt, tt)) in

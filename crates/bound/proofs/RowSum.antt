@@ -9,7 +9,7 @@ use lib.Dec.{T}
 use lib.ListN.{length}
 use lib.Ieee.{binary32, fits}
 use lib.Ieee.Scale.{finite}
-use Rattle.fraction.specs.Fraction.{Fraction, _≤ᶠ_, _≈ᶠ_, natᶠ, _/2^_, _+ᶠ_, _*ᶠ_, Near, Within}
+use Rattle.fraction.specs.Fraction.{Fraction, _≤ᶠ_, _≈ᶠ_, natᶠ, _+ᶠ_, _*ᶠ_, Near, Within}
 use Rattle.fraction.proofs.Linear.{at-le, at-eq, le-at, eq-at, add-at, scale-at, over, trans, lit}
 use Rattle.fraction.proofs.Order.{of-eq, refl≈, sym≈, add-mono, mul-mono-right, mul-comm, one-more, zero-mul, nat-le}
 use Rattle.fraction.proofs.Near.{near-refl, near-weaken, near-same, near-trans, near-add, within-weaken, within-near}
@@ -17,7 +17,7 @@ use Rattle.rounding.specs.Value.{val}
 use Rattle.rounding.proofs.Round.{near-to}
 use Rattle.float.specs.Ops.{f0}
 use Rattle.bound.proofs.Entries.{Entry, Fine, From, pick, tally, count, worth, size, here, before, anywhere, tally-within, tally-append, tally-wider, count-append, fine-append, from-none, area, number, number-le, sumOver}
-use Rattle.bound.proofs.Adds.{edgeError, mass, windingError}
+use Rattle.bound.proofs.Adds.{edgeError, mass, windingError, sumPart}
 use Rattle.bound.proofs.WindingSum.{wind, winding-near}
 
 -- a count of 0 or 1, times x
@@ -89,15 +89,15 @@ module _ {E : Type 0} (entries : E → List Entry) (counts : E → Bool) (exact 
       top : tally size (before n) (flat entries es) ≤ᶠ natᶠ (2 ^ 20)
       top = trans m (trans (mul-mono-right {y = natᶠ 2048} (lit tt) (nat-le (omega (arith, number-le counts es, k)))) (unfold _*ᶠ_ in lit tt))
 
-      s : T (finite (wind (λ i. area i f0 (flat entries es)) n)) × T (fits binary32 (wind (λ i. area i f0 (flat entries es)) n)) × Near (val (wind (λ i. area i f0 (flat entries es)) n)) (tally worth (before n) (flat entries es)) (1 /2^ 10 *ᶠ tally size (before n) (flat entries es))
+      s : T (finite (wind (λ i. area i f0 (flat entries es)) n)) × T (fits binary32 (wind (λ i. area i f0 (flat entries es)) n)) × Near (val (wind (λ i. area i f0 (flat entries es)) n)) (tally worth (before n) (flat entries es)) (sumPart *ᶠ tally size (before n) (flat entries es))
       s = winding-near (flat entries es) (all-fine es g) (λ i. omega (arith, all-twice es g i, k)) n l top
 
-      sum : 1 /2^ 10 *ᶠ tally size (before n) (flat entries es) +ᶠ natᶠ (number counts es) *ᶠ edgeError ≤ᶠ natᶠ (number counts es) *ᶠ windingError
-      sum = over (tally size (before n) (flat entries es) ∷ natᶠ (number counts es) ∷ natᶠ (number counts es) *ᶠ mass ∷ natᶠ (number counts es) *ᶠ edgeError ∷ natᶠ (number counts es) *ᶠ windingError ∷ mass *ᶠ natᶠ (number counts es) ∷ edgeError *ᶠ natᶠ (number counts es) ∷ windingError *ᶠ natᶠ (number counts es) ∷ 1 /2^ 10 *ᶠ tally size (before n) (flat entries es) ∷ []) (λ N p M K A B C A' B' C' D.
+      sum : sumPart *ᶠ tally size (before n) (flat entries es) +ᶠ natᶠ (number counts es) *ᶠ edgeError ≤ᶠ natᶠ (number counts es) *ᶠ windingError
+      sum = over (tally size (before n) (flat entries es) ∷ natᶠ (number counts es) ∷ natᶠ (number counts es) *ᶠ mass ∷ natᶠ (number counts es) *ᶠ edgeError ∷ natᶠ (number counts es) *ᶠ windingError ∷ mass *ᶠ natᶠ (number counts es) ∷ edgeError *ᶠ natᶠ (number counts es) ∷ windingError *ᶠ natᶠ (number counts es) ∷ sumPart *ᶠ tally size (before n) (flat entries es) ∷ []) (λ N p M K A B C A' B' C' D.
           le-at N (add-at N D B) C p (omega (
             arith,
             at-le N M A m,
-            scale-at N (1 /2^ 10) M D,
+            scale-at N sumPart M D,
             scale-at N mass K A',
             scale-at N edgeError K B',
             scale-at N (windingError) K C',
@@ -106,14 +106,14 @@ module _ {E : Type 0} (entries : E → List Entry) (counts : E → Bool) (exact 
             at-eq N C C' (mul-comm (natᶠ (number counts es)) (windingError)),
           )))
 
-      most : tally size (before n) (flat entries es) +ᶠ 1 /2^ 10 *ᶠ tally size (before n) (flat entries es) ≤ᶠ natᶠ (number counts es) *ᶠ natᶠ 2
-      most = over (tally size (before n) (flat entries es) ∷ natᶠ (number counts es) ∷ natᶠ (number counts es) *ᶠ mass ∷ natᶠ (number counts es) *ᶠ natᶠ 2 ∷ mass *ᶠ natᶠ (number counts es) ∷ natᶠ 2 *ᶠ natᶠ (number counts es) ∷ 1 /2^ 10 *ᶠ tally size (before n) (flat entries es) ∷ natᶠ 0 ∷ []) (λ N p M K A C A' C' D O.
+      most : tally size (before n) (flat entries es) +ᶠ sumPart *ᶠ tally size (before n) (flat entries es) ≤ᶠ natᶠ (number counts es) *ᶠ natᶠ 2
+      most = over (tally size (before n) (flat entries es) ∷ natᶠ (number counts es) ∷ natᶠ (number counts es) *ᶠ mass ∷ natᶠ (number counts es) *ᶠ natᶠ 2 ∷ mass *ᶠ natᶠ (number counts es) ∷ natᶠ 2 *ᶠ natᶠ (number counts es) ∷ sumPart *ᶠ tally size (before n) (flat entries es) ∷ natᶠ 0 ∷ []) (λ N p M K A C A' C' D O.
           le-at N (add-at N M D) C p (omega (
             arith,
             O .is,
             at-le N O K (nat-le {m = 0} {n = number counts es} (omega arith)),
             at-le N M A m,
-            scale-at N (1 /2^ 10) M D,
+            scale-at N sumPart M D,
             scale-at N mass K A',
             scale-at N (natᶠ 2) K C',
             at-eq N A A' (mul-comm (natᶠ (number counts es)) mass),

@@ -9,7 +9,7 @@ use lib.Dec.{T, eqb}
 use lib.Ieee.{Float, binary32, lt, le}
 use lib.Ieee.Fits.{mul-fits, sub-fits}
 use lib.Ieee.Scale.{finite}
-use Rattle.fraction.specs.Fraction.{Fraction, _≤ᶠ_, _<ᶠ_, _≈ᶠ_, natᶠ, _/2^_, _+ᶠ_, _-ᶠ_, _*ᶠ_, negᶠ, absᶠ, Near}
+use Rattle.fraction.specs.Fraction.{Fraction, _≤ᶠ_, _<ᶠ_, _≈ᶠ_, natᶠ, _+ᶠ_, _-ᶠ_, _*ᶠ_, negᶠ, absᶠ, Near}
 use Rattle.fraction.proofs.Linear.{at-le, at-lt, at-eq, le-at, lt-at, eq-at, add-at, sub-at, neg-at, over, lit, trans}
 use Rattle.fraction.proofs.Order.{of-eq, of-lt, sym≈, trans≈, refl≈, mul-comm, mul-cong, mul-assoc, mul-one, mul-mono, zero-mul, above-not, nat-le}
 use Rattle.fraction.proofs.Near.{near-refl, near-weaken, near-same, near-trans, near-add, near-by, within-weaken, within-near, within-self, within-same, within-mul, within-sub}
@@ -26,7 +26,7 @@ use Rattle.winding.proofs.MeanOf.{G}
 use Rattle.winding.proofs.Cells.{G-right, G-left, G-cut-left, G-cut-right, G-range, G-sym, G-cong}
 use Rattle.bound.proofs.Entries.{Entry, entry, count, here, prefix, total, plus-none, pick-in, rising-once}
 use Rattle.bound.proofs.Model.{insideE, clipE, spanE}
-use Rattle.bound.proofs.Adds.{Adds, cutOnce, cutTwice, insideError, insideExcess, rightError, rightExcess, spanError, spanExcess}
+use Rattle.bound.proofs.Adds.{Adds, cutOnce, cutTwice, insideError, insideExcess, rightError, rightExcess, spanError, spanExcess, quotientError, cutError}
 use Rattle.bound.proofs.Numbers.{Num, Exact, num-weaken, num-itself, zero-is, whole-is, lt-yes, lt-no, le-yes, le-no}
 use Rattle.bound.proofs.OneCell.{size-of}
 use Rattle.bound.proofs.Products.{approx-weaken, approx-exact, approx-rounds, quotient, part, part-is, part-lo, part-hi, cut-in, cut-out}
@@ -157,14 +157,14 @@ module _ (w : ℕ) (small : w ≤ 4096) where
     abbrev i′ : Float
     i′ = (W ⊖ lo) ⊘ (hi ⊖ lo)
 
-    i-ok : Known binary32 i′ I (natᶠ 1) (1 /2^ 22)
+    i-ok : Known binary32 i′ I (natᶠ 1) quotientError
     i-ok = quotient (W ⊖ lo) (hi ⊖ lo) iN iD I (approx-rounds num-ok (sub-fits binary32 W lo)) (approx-rounds den-ok (sub-fits binary32 hi lo)) (above-not iD0) (part-is iN iD iN0 iD0 iND)
         (within-weaken (within-self (part-lo iN iD iN0 iD0 iND)) (part-hi iN iD iN0 iD0 iND))
 
     abbrev a′ : Float
     a′ = a ⊗ i′
 
-    a-ok : T (finite a′) × Near (val a′) (val a *ᶠ I) (1 /2^ 21)
+    a-ok : T (finite a′) × Near (val a′) (val a *ᶠ I) cutError
     a-ok = cut-in a i′ I (num-weaken (lit tt) A) i-ok (part-lo iN iD iN0 iD0 iND) (part-hi iN iD iN0 iD0 iND)
 
     a-num : Num a′ cutTwice
@@ -182,7 +182,7 @@ module _ (w : ℕ) (small : w ≤ 4096) where
           (near-weaken (near-trans (near-to (mul-cong (val a′) (G-cong c (refl≈ _) (W-is .eq))) (inner .near c k)) (by-part ((G-range c (val lo) (natᶠ w)) .0) ((G-range c (val lo) (natᶠ w)) .1) (lit tt) (a-ok .1))) (unfold _+ᶠ_ in lit tt));
       size =
           let B = absᶠ (val a) in
-          over (total (spanE w (suc n) lo W a′) ∷ absᶠ (val a′) ∷ B ∷ B *ᶠ I ∷ insideExcess ∷ rightExcess ∷ 1 /2^ 21 ∷ []) (λ N m X Y Z U d D e.
+          over (total (spanE w (suc n) lo W a′) ∷ absᶠ (val a′) ∷ B ∷ B *ᶠ I ∷ insideExcess ∷ rightExcess ∷ cutError ∷ []) (λ N m X Y Z U d D e.
           le-at N X (add-at N Z D) m (omega (
             arith,
             d .is,
@@ -249,7 +249,7 @@ module _ (w : ℕ) (small : w ≤ 4096) where
     abbrev o′ : Float
     o′ = lo ⊘ (lo ⊖ hi)
 
-    o-ok : Known binary32 o′ O (natᶠ 1) (1 /2^ 22)
+    o-ok : Known binary32 o′ O (natᶠ 1) quotientError
     o-ok = quotient lo (lo ⊖ hi) (val lo) (val lo -ᶠ val hi) O (approx-weaken (lit tt) (lit tt) (approx-exact (num-itself L))) (approx-rounds den⁻ (sub-fits binary32 lo hi)) below-zero turned (within-weaken (within-self O0) O1)
 
     abbrev a0 : Float
@@ -261,10 +261,10 @@ module _ (w : ℕ) (small : w ≤ 4096) where
     A⁺ : Num a cutTwice
     A⁺ = num-weaken (lit tt) A
 
-    a0-ok : T (finite a0) × Near (val a0) (val a *ᶠ O) (1 /2^ 21)
+    a0-ok : T (finite a0) × Near (val a0) (val a *ᶠ O) cutError
     a0-ok = cut-in a o′ O A⁺ o-ok O0 O1
 
-    a″-ok : T (finite a″) × Near (val a″) (val a *ᶠ (natᶠ 1 -ᶠ O)) (1 /2^ 21)
+    a″-ok : T (finite a″) × Near (val a″) (val a *ᶠ (natᶠ 1 -ᶠ O)) cutError
     a″-ok = cut-out a o′ O A⁺ o-ok O0 O1
 
     R0 : natᶠ 0 ≤ᶠ natᶠ 1 -ᶠ O
@@ -300,7 +300,7 @@ module _ (w : ℕ) (small : w ≤ 4096) where
           let ρ = B ∷ O ∷ [] in
           let P = reps ρ in
           let sum = ring ρ {x = B *ᶠ O +ᶠ B *ᶠ (natᶠ 1 -ᶠ O)} {y = B} (search rep depth 9) (search rep depth 9) tt in
-          over (absᶠ (val a0) ∷ total (spanE w (suc (suc n)) f0 hi a″) ∷ absᶠ (val a″) ∷ B ∷ B *ᶠ O ∷ B *ᶠ (natᶠ 1 -ᶠ O) ∷ rightExcess ∷ spanExcess ∷ 1 /2^ 21 ∷ []) (λ N m x t y b p q d D e.
+          over (absᶠ (val a0) ∷ total (spanE w (suc (suc n)) f0 hi a″) ∷ absᶠ (val a″) ∷ B ∷ B *ᶠ O ∷ B *ᶠ (natᶠ 1 -ᶠ O) ∷ rightExcess ∷ spanExcess ∷ cutError ∷ []) (λ N m x t y b p q d D e.
           le-at N (add-at N x t) (add-at N b D) m (omega (
             arith,
             d .is,

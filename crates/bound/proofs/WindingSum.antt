@@ -10,7 +10,7 @@ use lib.ListN.{length, getD}
 use lib.Ieee.{Float, nan, binary32, emax, fits}
 use lib.Ieee.Fits.{add-fits}
 use lib.Ieee.Scale.{finite}
-use Rattle.fraction.specs.Fraction.{Fraction, _≤ᶠ_, natᶠ, _/2^_, _+ᶠ_, _*ᶠ_, Near, Within}
+use Rattle.fraction.specs.Fraction.{Fraction, _≤ᶠ_, natᶠ, _+ᶠ_, _*ᶠ_, Near, Within}
 use Rattle.fraction.proofs.Linear.{at, at-le, at-eq, le-at, add-at, scale-at, over, trans, lit}
 use Rattle.fraction.proofs.Order.{refl≤, of-eq, sym≈, add-mono, mul-mono-right, mul-cong, one-more, zero-mul, nat-le}
 use Rattle.fraction.proofs.Near.{near-refl, near-weaken, near-same, within-add, within-self, within-weaken, sumᶠ}
@@ -21,6 +21,7 @@ use Rattle.rounding.proofs.Ops.{add-rounds}
 use Rattle.float.specs.Ops.{_⊕_, f0}
 use Rattle.row.specs.Row.{Cells}
 use Rattle.row.specs.Sweep.{bytesOf, coveredOf}
+use Rattle.bound.proofs.Adds.{entryPart, cellPart, sumPart}
 use Rattle.bound.proofs.Entries.{Entry, Fine, tally, count, worth, size, here, before, none-plus, tally-nonneg, tally-wider, swap, area}
 use Rattle.bound.proofs.Numbers.{zero-is}
 use Rattle.bound.proofs.CellSum.{Holds, within-nonneg, holds-same, cell-sum}
@@ -50,13 +51,13 @@ module _ (a : ℕ → Float) (s S : ℕ → Fraction) (M : Fraction) (top : M �
   pub record Cell (i : ℕ) : Type 0 where
     pub fine : T (finite (a i))
     pub held : T (fits binary32 (a i))
-    pub near : Near (val (a i)) (s i) (1 /2^ 11 *ᶠ S i)
+    pub near : Near (val (a i)) (s i) (cellPart *ᶠ S i)
     pub size : Within (s i) (S i)
 
   pub record Wound (r : Float) (n : ℕ) : Type 0 where
     pub fine : T (finite r)
     pub held : T (fits binary32 r)
-    pub near : Near (val r) (sumᶠ n s) (1 /2^ 11 *ᶠ sumᶠ n S +ᶠ natᶠ n *ᶠ (roundoff binary32 *ᶠ (M +ᶠ M)))
+    pub near : Near (val r) (sumᶠ n s) (cellPart *ᶠ sumᶠ n S +ᶠ natᶠ n *ᶠ (roundoff binary32 *ᶠ (M +ᶠ M)))
     pub size : Within (sumᶠ n s) (sumᶠ n S)
 
   nothing : Wound f0 0
@@ -65,9 +66,9 @@ module _ (a : ℕ → Float) (s S : ℕ → Fraction) (M : Fraction) (top : M �
     fine = zero-is .fine;
     held = zero-is .held;
     size = within-self (lit tt);
-    near = over (val f0 ∷ natᶠ 0 ∷ 1 /2^ 11 *ᶠ natᶠ 0 ∷ natᶠ 0 *ᶠ (roundoff binary32 *ᶠ (M +ᶠ M)) ∷ []) (λ N n F O E D.
+    near = over (val f0 ∷ natᶠ 0 ∷ cellPart *ᶠ natᶠ 0 ∷ natᶠ 0 *ᶠ (roundoff binary32 *ᶠ (M +ᶠ M)) ∷ []) (λ N n F O E D.
         let f = at-eq N F O (zero-is .eq) in
-        let e = scale-at N (1 /2^ 11) O E in
+        let e = scale-at N cellPart O E in
         let d = at-eq N D O (zero-mul (roundoff binary32 *ᶠ (M +ᶠ M))) in
         record { lo = le-at N (search at) (search at) n (omega (arith, O .is, f, e, d)); hi = le-at N (search at) (search at) n (omega (arith, O .is, f, e, d)) });
   }
@@ -86,10 +87,10 @@ module _ (a : ℕ → Float) (s S : ℕ → Fraction) (M : Fraction) (top : M �
     many = mul-mono-right UM0 (nat-le l)
 
     wide : Within (val (wind a n) +ᶠ val (a n)) (M +ᶠ M)
-    wide = over (val (wind a n) ∷ val (a n) ∷ sumᶠ n s ∷ s n ∷ sumᶠ n S ∷ S n ∷ M ∷ 1 /2^ 11 *ᶠ sumᶠ n S ∷ 1 /2^ 11 *ᶠ S n ∷ roundoff binary32 *ᶠ (M +ᶠ M) ∷ natᶠ n *ᶠ (roundoff binary32 *ᶠ (M +ᶠ M)) ∷ natᶠ 4096 *ᶠ (roundoff binary32 *ᶠ (M +ᶠ M)) ∷ natᶠ 0 ∷ [])
+    wide = over (val (wind a n) ∷ val (a n) ∷ sumᶠ n s ∷ s n ∷ sumᶠ n S ∷ S n ∷ M ∷ cellPart *ᶠ sumᶠ n S ∷ cellPart *ᶠ S n ∷ roundoff binary32 *ᶠ (M +ᶠ M) ∷ natᶠ n *ᶠ (roundoff binary32 *ᶠ (M +ᶠ M)) ∷ natᶠ 4096 *ᶠ (roundoff binary32 *ᶠ (M +ᶠ M)) ∷ natᶠ 0 ∷ [])
         (λ N k W Y s1 s2 X1 X2 B E1 E2 U D G O.
-        let e1 = scale-at N (1 /2^ 11) X1 E1 in
-        let e2 = scale-at N (1 /2^ 11) X2 E2 in
+        let e1 = scale-at N cellPart X1 E1 in
+        let e2 = scale-at N cellPart X2 E2 in
         let u = scale-at N (roundoff binary32) (add-at N B B) U in
         let g = scale-at N (natᶠ 4096) U G in
         let d = at-le N D G many in
@@ -104,12 +105,12 @@ module _ (a : ℕ → Float) (s S : ℕ → Fraction) (M : Fraction) (top : M �
     small = trans {y = natᶠ (2 ^ 21)} (over (M ∷ natᶠ (2 ^ 20) ∷ natᶠ (2 ^ 21) ∷ []) (λ N k A B C. le-at N (add-at N A A) C k (omega (arith, B .is, C .is, at-le N A B top)))) (lit tt)
 
     -- a winding r that is off from the sum of the two by no more than 2 ^ -24 of 2 M
-    close : (r : Fraction) → Near r (val (wind a n) +ᶠ val (a n)) (roundoff binary32 *ᶠ (M +ᶠ M)) → Near r (sumᶠ n s +ᶠ s n) (1 /2^ 11 *ᶠ (sumᶠ n S +ᶠ S n) +ᶠ natᶠ (suc n) *ᶠ (roundoff binary32 *ᶠ (M +ᶠ M)))
-    close r h = over (r ∷ val (wind a n) ∷ val (a n) ∷ sumᶠ n s ∷ s n ∷ sumᶠ n S ∷ S n ∷ M ∷ 1 /2^ 11 *ᶠ sumᶠ n S ∷ 1 /2^ 11 *ᶠ S n ∷ 1 /2^ 11 *ᶠ (sumᶠ n S +ᶠ S n) ∷ roundoff binary32 *ᶠ (M +ᶠ M) ∷ natᶠ n *ᶠ (roundoff binary32 *ᶠ (M +ᶠ M)) ∷ natᶠ (suc n) *ᶠ (roundoff binary32 *ᶠ (M +ᶠ M)) ∷ [])
+    close : (r : Fraction) → Near r (val (wind a n) +ᶠ val (a n)) (roundoff binary32 *ᶠ (M +ᶠ M)) → Near r (sumᶠ n s +ᶠ s n) (cellPart *ᶠ (sumᶠ n S +ᶠ S n) +ᶠ natᶠ (suc n) *ᶠ (roundoff binary32 *ᶠ (M +ᶠ M)))
+    close r h = over (r ∷ val (wind a n) ∷ val (a n) ∷ sumᶠ n s ∷ s n ∷ sumᶠ n S ∷ S n ∷ M ∷ cellPart *ᶠ sumᶠ n S ∷ cellPart *ᶠ S n ∷ cellPart *ᶠ (sumᶠ n S +ᶠ S n) ∷ roundoff binary32 *ᶠ (M +ᶠ M) ∷ natᶠ n *ᶠ (roundoff binary32 *ᶠ (M +ᶠ M)) ∷ natᶠ (suc n) *ᶠ (roundoff binary32 *ᶠ (M +ᶠ M)) ∷ [])
         (λ N k R W Y s1 s2 X1 X2 B E1 E2 E U D D'.
-        let e1 = scale-at N (1 /2^ 11) X1 E1 in
-        let e2 = scale-at N (1 /2^ 11) X2 E2 in
-        let e = scale-at N (1 /2^ 11) (add-at N X1 X2) E in
+        let e1 = scale-at N cellPart X1 E1 in
+        let e2 = scale-at N cellPart X2 E2 in
+        let e = scale-at N cellPart (add-at N X1 X2) E in
         let d = at-eq N D' (add-at N D U) (one-more n (roundoff binary32 *ᶠ (M +ᶠ M))) in
         record {
           lo = le-at N (search at) (search at) k (omega (arith, e1, e2, e, d, at-le N (search at) (search at) (h .lo), at-le N (search at) (search at) (w .near .lo), at-le N (search at) (search at) (c .near .lo)));
@@ -139,25 +140,25 @@ start : Holds f0 (natᶠ 0) (natᶠ 0) 0
 start = record { fine = zero-is .fine; held = zero-is .held; near = near-same (sym≈ (zero-is .eq)) (near-weaken (near-refl (natᶠ 0)) (unfold _*ᶠ_ in lit tt)); size = within-self (lit tt) }
 
 -- n of at most 4,096 entries: 2 ^ -23 of n * S is at most 2 ^ -11 of S
-few-entries : (n : ℕ) (S : Fraction) → n ≤ 4096 → natᶠ 0 ≤ᶠ S → 1 /2^ 23 *ᶠ (natᶠ n *ᶠ S) ≤ᶠ 1 /2^ 11 *ᶠ S
+few-entries : (n : ℕ) (S : Fraction) → n ≤ 4096 → natᶠ 0 ≤ᶠ S → entryPart *ᶠ (natᶠ n *ᶠ S) ≤ᶠ cellPart *ᶠ S
 few-entries n S h p =
-    over (S ∷ natᶠ n *ᶠ S ∷ natᶠ 4096 *ᶠ S ∷ 1 /2^ 23 *ᶠ (natᶠ n *ᶠ S) ∷ 1 /2^ 11 *ᶠ S ∷ []) (λ N k X P G E D.
-    le-at N E D k (omega (arith, scale-at N (1 /2^ 23) P E, scale-at N (1 /2^ 11) X D, scale-at N (natᶠ 4096) X G, at-le N P G (mul-mono-right p (nat-le h)))))
+    over (S ∷ natᶠ n *ᶠ S ∷ natᶠ 4096 *ᶠ S ∷ entryPart *ᶠ (natᶠ n *ᶠ S) ∷ cellPart *ᶠ S ∷ []) (λ N k X P G E D.
+    le-at N E D k (omega (arith, scale-at N entryPart P E, scale-at N cellPart X D, scale-at N (natᶠ 4096) X G, at-le N P G (mul-mono-right p (nat-le h)))))
 
 -- the two errors together
-halves : (n : ℕ) (M : Fraction) → n ≤ 4096 → natᶠ 0 ≤ᶠ M → 1 /2^ 11 *ᶠ M +ᶠ natᶠ n *ᶠ (roundoff binary32 *ᶠ (M +ᶠ M)) ≤ᶠ 1 /2^ 10 *ᶠ M
+halves : (n : ℕ) (M : Fraction) → n ≤ 4096 → natᶠ 0 ≤ᶠ M → cellPart *ᶠ M +ᶠ natᶠ n *ᶠ (roundoff binary32 *ᶠ (M +ᶠ M)) ≤ᶠ sumPart *ᶠ M
 halves n M h p =
     let u = over (M ∷ roundoff binary32 *ᶠ (M +ᶠ M) ∷ natᶠ 0 ∷ []) {G = natᶠ 0 ≤ᶠ roundoff binary32 *ᶠ (M +ᶠ M)} (λ N k A U O. le-at N O U k (omega (arith, O .is, scale-at N (roundoff binary32) (add-at N A A) U, at-le N O A p))) in
-    over (M ∷ roundoff binary32 *ᶠ (M +ᶠ M) ∷ natᶠ n *ᶠ (roundoff binary32 *ᶠ (M +ᶠ M)) ∷ natᶠ 4096 *ᶠ (roundoff binary32 *ᶠ (M +ᶠ M)) ∷ 1 /2^ 11 *ᶠ M ∷ 1 /2^ 10 *ᶠ M ∷ []) (λ N k A U D G E F.
-    le-at N (add-at N E D) F k (omega (arith, scale-at N (1 /2^ 11) A E, scale-at N (1 /2^ 10) A F, scale-at N (roundoff binary32) (add-at N A A) U, scale-at N (natᶠ 4096) U G, at-le N D G (mul-mono-right u (nat-le h)))))
+    over (M ∷ roundoff binary32 *ᶠ (M +ᶠ M) ∷ natᶠ n *ᶠ (roundoff binary32 *ᶠ (M +ᶠ M)) ∷ natᶠ 4096 *ᶠ (roundoff binary32 *ᶠ (M +ᶠ M)) ∷ cellPart *ᶠ M ∷ sumPart *ᶠ M ∷ []) (λ N k A U D G E F.
+    le-at N (add-at N E D) F k (omega (arith, scale-at N cellPart A E, scale-at N sumPart A F, scale-at N (roundoff binary32) (add-at N A A) U, scale-at N (natᶠ 4096) U G, at-le N D G (mul-mono-right u (nat-le h)))))
 
 -- ---- THE SUM LEMMA: entries of any edges, one after another. Left of n, the winding is off by at most 2 ^ -10 of the sizes left of n
 module _ (l : List Entry) (fine : Fine l) (few : (i : ℕ) → count (here i) l ≤ 4096) where
   pub winding-near : (n : ℕ) → n ≤ 4096 → tally size (before n) l ≤ᶠ natᶠ (2 ^ 20) → T (finite (wind (λ i. area i f0 l) n)) × T (fits binary32 (wind (λ i. area i f0 l) n))
-      × Near (val (wind (λ i. area i f0 l) n)) (tally worth (before n) l) (1 /2^ 10 *ᶠ tally size (before n) l)
+      × Near (val (wind (λ i. area i f0 l) n)) (tally worth (before n) l) (sumPart *ᶠ tally size (before n) l)
   winding-near n k top =
       let w = wound (λ i. area i f0 l) (λ i. tally worth (here i) l) (λ i. tally size (here i) l) (tally size (before n) l) top n k cell (of-eq (swap size n l)) in
-      (w .fine, w .held, near-to (swap worth n l) (near-weaken (w .near) (trans (add-mono (of-eq (mul-cong (1 /2^ 11) (swap size n l))) (refl≤ (natᶠ n *ᶠ (roundoff binary32 *ᶠ (tally size (before n) l +ᶠ tally size (before n) l))))) (halves n (tally size (before n) l) k (tally-nonneg (before n) l)))))
+      (w .fine, w .held, near-to (swap worth n l) (near-weaken (w .near) (trans (add-mono (of-eq (mul-cong cellPart (swap size n l))) (refl≤ (natᶠ n *ᶠ (roundoff binary32 *ᶠ (tally size (before n) l +ᶠ tally size (before n) l))))) (halves n (tally size (before n) l) k (tally-nonneg (before n) l)))))
     where
       inside : (i : ℕ) → i < n → tally size (here i) l ≤ᶠ tally size (before n) l
       inside i h = tally-wider (here i) (before n) l (λ e t. lt→ltb (e .cell) n (omega (arith, eqb→eq (e .cell) i t)))
