@@ -5,11 +5,11 @@ use mathlib.Core.List.{List, [], _∷_}
 use mathlib.Core.Bool.{Bool, true, false, not, cond}
 use Prim.Native.Nat.{ℕ, _+_, _*_, _≤_, _<_, min, max}
 use native.Mathlib.Omega.{arith}
-use lib.Dec.{T, nleb→lt}
+use lib.Dec.{T, nleb→lt, nltb→le}
 use Rattle.fraction.specs.Whole.{Whole, _×ℕ_, natʷ, _≤ʷ_, _≈ʷ_}
-use Rattle.fraction.specs.Fraction.{Fraction, _≤ᶠ_, _<ᶠ_, _≈ᶠ_, leᵇ, natᶠ, _+ᶠ_, minᶠ, maxᶠ, clampᶠ, Near}
-use Rattle.fraction.proofs.Linear.{At, at, at-le, at-eq, le-at, eq-at, add-at, over, lit}
-use Rattle.fraction.proofs.Order.{of-lt}
+use Rattle.fraction.specs.Fraction.{Fraction, _≤ᶠ_, _<ᶠ_, _≈ᶠ_, leᵇ, ltᵇ, natᶠ, _+ᶠ_, minᶠ, maxᶠ, clampᶠ, Near}
+use Rattle.fraction.proofs.Linear.{At, at, at-le, at-eq, le-at, eq-at, add-at, over, lit, lit<ᶠ}
+use Rattle.fraction.proofs.Order.{of-lt, lt-not-le}
 
 -- ---- what the test says
 pub yes≤ : (x y : Fraction) → T (leᵇ x y) → x ≤ᶠ y
@@ -73,6 +73,12 @@ module _ (x y : Fraction) where
   pub min-le-right : minᶠ x y ≤ᶠ y
   min-le-right = over (x ∷ y ∷ []) (λ N n X Y. le-at N (min-at N n X Y) Y n (omega arith))
 
+  pub max-ge-left : x ≤ᶠ maxᶠ x y
+  max-ge-left = over (x ∷ y ∷ []) (λ N n X Y. le-at N X (max-at N n X Y) n (omega arith))
+
+  pub max-ge-right : y ≤ᶠ maxᶠ x y
+  max-ge-right = over (x ∷ y ∷ []) (λ N n X Y. le-at N Y (max-at N n X Y) n (omega arith))
+
 -- ---- an error does not grow
 pub near-min : {x X e : Fraction} (c : Fraction) → natᶠ 0 ≤ᶠ e → Near x X e → Near (minᶠ x c) (minᶠ X c) e
 near-min {x} {X} {e} c p h = over (x ∷ X ∷ e ∷ c ∷ natᶠ 0 ∷ []) (λ N n A B E C O.
@@ -112,8 +118,37 @@ module _ (x : Fraction) where
   pub clamp-inside : natᶠ 0 ≤ᶠ x → x ≤ᶠ natᶠ 1 → clampᶠ x ≈ᶠ x
   clamp-inside p q = over (x ∷ natᶠ 0 ∷ natᶠ 1 ∷ []) (λ N n X O I. eq-at N (clamp-at N n O I X) X n (omega (arith, O .is, I .is, at-le N O X p, at-le N X I q)))
 
-  pub clamp-low : natᶠ 0 ≤ᶠ clampᶠ x
-  clamp-low = over (x ∷ natᶠ 0 ∷ natᶠ 1 ∷ []) (λ N n X O I. le-at N O (clamp-at N n O I X) n (omega (arith, O .is, I .is)))
+  pub clamp-nonneg : natᶠ 0 ≤ᶠ clampᶠ x
+  clamp-nonneg = over (x ∷ natᶠ 0 ∷ natᶠ 1 ∷ []) (λ N n X O I. le-at N O (clamp-at N n O I X) n (omega (arith, O .is, I .is)))
 
-  pub clamp-high : clampᶠ x ≤ᶠ natᶠ 1
-  clamp-high = over (x ∷ natᶠ 0 ∷ natᶠ 1 ∷ []) (λ N n X O I. le-at N (clamp-at N n O I X) I n (omega (arith, n, O .is, I .is)))
+  pub clamp-le-one : clampᶠ x ≤ᶠ natᶠ 1
+  clamp-le-one = over (x ∷ natᶠ 0 ∷ natᶠ 1 ∷ []) (λ N n X O I. le-at N (clamp-at N n O I X) I n (omega (arith, n, O .is, I .is)))
+
+  -- outside it is 0 or 1
+  pub clamp-below : x ≤ᶠ natᶠ 0 → clampᶠ x ≈ᶠ natᶠ 0
+  clamp-below h = over (x ∷ natᶠ 0 ∷ natᶠ 1 ∷ []) (λ N n X O I. eq-at N (clamp-at N n O I X) O n (omega (arith, O .is, I .is, at-le N X O h)))
+
+  pub clamp-above : natᶠ 1 ≤ᶠ x → clampᶠ x ≈ᶠ natᶠ 1
+  clamp-above h = over (x ∷ natᶠ 0 ∷ natᶠ 1 ∷ []) (λ N n X O I. eq-at N (clamp-at N n O I X) I n (omega (arith, n, O .is, I .is, at-le N I X h)))
+
+pub clamp-cong : {x y : Fraction} → x ≈ᶠ y → clampᶠ x ≈ᶠ clampᶠ y
+clamp-cong {x} {y} e =
+    over (x ∷ y ∷ natᶠ 0 ∷ natᶠ 1 ∷ []) (λ N n X Y O I. eq-at N (clamp-at N n O I X) (clamp-at N n O I Y) n (omega (arith, O .is, I .is, at-eq N X Y e)))
+
+-- ---- the test < decides a condition
+pub no≤ : (x y : Fraction) → T (not (ltᵇ x y)) → y ≤ᶠ x
+no≤ x y t = record { le = omega (arith, nltb→le (x .num .plus * y .den + y .num .minus * x .den) (y .num .plus * x .den + x .num .minus * y .den) t) }
+
+pub if-less : {A : Type 0} (x y : Fraction) (a b : A) → x <ᶠ y → cond (ltᵇ x y) a b ≡ a
+if-less {A} x y a b h = go (ltᵇ x y) (no≤ x y)
+  where
+    go : (t : Bool) → (T (not t) → y ≤ᶠ x) → cond t a b ≡ a
+    go true f = refl
+    go false f = absurd (lt-not-le h (f tt))
+
+pub if-not-less : {A : Type 0} (x y : Fraction) (a b : A) → y ≤ᶠ x → cond (ltᵇ x y) a b ≡ b
+if-not-less {A} x y a b h = go (ltᵇ x y) lit<ᶠ
+  where
+    go : (t : Bool) → (T t → x <ᶠ y) → cond t a b ≡ b
+    go true f = absurd (lt-not-le (f tt) h)
+    go false f = refl

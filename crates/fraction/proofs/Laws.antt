@@ -82,8 +82,8 @@ size-laws = record {
   max-left = clamp.max-left;
   max-right = clamp.max-right;
   clamp-inside = clamp.clamp-inside;
-  clamp-low = clamp.clamp-low;
-  clamp-high = clamp.clamp-high;
+  clamp-nonneg = clamp.clamp-nonneg;
+  clamp-le-one = clamp.clamp-le-one;
 }
 
 pub error-laws : ErrorLaws

@@ -10,9 +10,12 @@ use native.Mathlib.Omega.{arith}
 use lib.Dec.{T, ltb, leb→le, nleb→lt, ltb→lt, nltb→le}
 use Rattle.fraction.specs.Whole.{Whole, _+ʷ_, _-ʷ_, _*ʷ_, _×ℕ_, negʷ, natʷ, sizeʷ, _≤ʷ_, _<ʷ_, _≈ʷ_}
 use Rattle.fraction.specs.Fraction.{Fraction, _≤ᶠ_, _<ᶠ_, _≈ᶠ_, leᵇ, natᶠ, _+ᶠ_, _-ᶠ_, _*ᶠ_, negᶠ, absᶠ, minᶠ, maxᶠ, invᶠ, _/ᶠ_, Near, Within}
-use Rattle.fraction.proofs.Linear.{At, at, at-le, at-eq, le-at, eq-at, add-at, sub-at, mul-at, cong, self, over, trans}
+use Rattle.fraction.proofs.Linear.{At, at, at-le, at-lt, at-eq, le-at, lt-at, eq-at, add-at, sub-at, mul-at, cong, self, over, trans}
 
 -- ---- ≤ and ≈
+pub refl≈ : (x : Fraction) → x ≈ᶠ x
+refl≈ x = record { eq = refl }
+
 pub refl≤ : (x : Fraction) → x ≤ᶠ x
 refl≤ x = record { le = ℕ-refl _ }
 
@@ -43,6 +46,36 @@ le-or-lt x y = go (decLe _ _)
     go : Dec (a ≤ b) → (x ≤ᶠ y) ⊎ (y <ᶠ x)
     go (yes h) = inl (record { le = h })
     go (no f) = inr (record { lt = omega arith })
+
+-- equal numbers serve one for the other
+pub le-cong : {x y z w : Fraction} → x ≈ᶠ y → z ≈ᶠ w → x ≤ᶠ z → y ≤ᶠ w
+le-cong p q h = trans (of-eq (sym≈ p)) (trans h (of-eq q))
+
+pub lt-not : {x y : Fraction} → x <ᶠ y → ¬ (y ≈ᶠ x)
+lt-not h e = omega (arith, h .lt, e .eq)
+
+pub lt-not-le : {x y : Fraction} → x <ᶠ y → ¬ (y ≤ᶠ x)
+lt-not-le h k = omega (arith, h .lt, k .le)
+
+pub lt-trans : {x y z : Fraction} → x <ᶠ y → y <ᶠ z → x <ᶠ z
+lt-trans {x} {y} {z} h k = over (x ∷ y ∷ z ∷ []) (λ N n X Y Z. lt-at N X Z (omega (arith, at-lt N X Y n h, at-lt N Y Z n k)))
+
+pub le-lt : {x y z : Fraction} → x ≤ᶠ y → y <ᶠ z → x <ᶠ z
+le-lt {x} {y} {z} h k = over (x ∷ y ∷ z ∷ []) (λ N n X Y Z. lt-at N X Z (omega (arith, at-le N X Y h, at-lt N Y Z n k)))
+
+pub lt-le : {x y z : Fraction} → x <ᶠ y → y ≤ᶠ z → x <ᶠ z
+lt-le {x} {y} {z} h k = over (x ∷ y ∷ z ∷ []) (λ N n X Y Z. lt-at N X Z (omega (arith, at-lt N X Y n h, at-le N Y Z k)))
+
+-- the difference of two in order
+pub sub-above : {x y : Fraction} → x <ᶠ y → natᶠ 0 <ᶠ y -ᶠ x
+sub-above {x} {y} h = over (x ∷ y ∷ natᶠ 0 ∷ []) (λ N n X Y O. lt-at N O (sub-at N Y X) (omega (arith, O .is, at-lt N X Y n h)))
+
+pub sub-nonneg : {x y : Fraction} → x ≤ᶠ y → natᶠ 0 ≤ᶠ y -ᶠ x
+sub-nonneg {x} {y} h = over (x ∷ y ∷ natᶠ 0 ∷ []) (λ N n X Y O. le-at N O (sub-at N Y X) n (omega (arith, O .is, at-le N X Y h)))
+
+-- whole numbers
+pub nat-le : {m n : ℕ} → m ≤ n → natᶠ m ≤ᶠ natᶠ n
+nat-le h = record { le = omega arith }
 
 -- ---- sums
 pub add-mono : {x y z w : Fraction} → x ≤ᶠ y → z ≤ᶠ w → x +ᶠ z ≤ᶠ y +ᶠ w
@@ -196,6 +229,16 @@ cancel x z y f h =
   where
     back : (w : Fraction) → w *ᶠ y *ᶠ invᶠ y ≈ᶠ w
     back w = trans≈ (mul-assoc w y (invᶠ y)) (trans≈ (mul-cong w (trans≈ (mul-comm y (invᶠ y)) (inv-mul y f))) (mul-one w))
+
+-- a factor above 0 cancels on both sides of an order
+pub cancel-le : (x y a : Fraction) → natᶠ 0 <ᶠ a → a *ᶠ x ≤ᶠ a *ᶠ y → x ≤ᶠ y
+cancel-le x y a p h = trans (of-eq (sym≈ (back x))) (trans (mul-mono (inv-nonneg a p) h) (of-eq (back y)))
+  where
+    back : (w : Fraction) → invᶠ a *ᶠ (a *ᶠ w) ≈ᶠ w
+    back w = trans≈ (sym≈ (mul-assoc (invᶠ a) a w)) (trans≈ (mul-comm (invᶠ a *ᶠ a) w) (trans≈ (mul-cong w (inv-mul a (above-not p))) (mul-one w)))
+
+pub cancel-eq : (x y a : Fraction) → natᶠ 0 <ᶠ a → a *ᶠ x ≈ᶠ a *ᶠ y → x ≈ᶠ y
+cancel-eq x y a p h = antisym (cancel-le x y a p (of-eq h)) (cancel-le y x a p (of-eq (sym≈ h)))
 
 -- x * y ≤ z is x ≤ z / y, for a y above 0
 pub le-div : {x y z : Fraction} → natᶠ 0 <ᶠ y → x *ᶠ y ≤ᶠ z → x ≤ᶠ z /ᶠ y

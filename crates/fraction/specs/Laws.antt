@@ -44,8 +44,8 @@ pub record SizeLaws : Type 0 where
   pub max-left : (x y : Fraction) → y ≤ᶠ x → maxᶠ x y ≈ᶠ x
   pub max-right : (x y : Fraction) → x ≤ᶠ y → maxᶠ x y ≈ᶠ y
   pub clamp-inside : (x : Fraction) → natᶠ 0 ≤ᶠ x → x ≤ᶠ natᶠ 1 → clampᶠ x ≈ᶠ x
-  pub clamp-low : (x : Fraction) → natᶠ 0 ≤ᶠ clampᶠ x
-  pub clamp-high : (x : Fraction) → clampᶠ x ≤ᶠ natᶠ 1
+  pub clamp-nonneg : (x : Fraction) → natᶠ 0 ≤ᶠ clampᶠ x
+  pub clamp-le-one : (x : Fraction) → clampᶠ x ≤ᶠ natᶠ 1
 
 -- how errors grow
 pub record ErrorLaws : Type 0 where

@@ -36,13 +36,7 @@ fn two_cells(name: &[u8], words: &[i32]) {
         height: 1,
     };
     write(name);
-    answer(mask::rasterize_into(
-        &mut mask,
-        size,
-        words,
-        &mut floats,
-        &mut counters,
-    ));
+    answer(mask::rasterize_into(&mut mask, size, words, &mut floats, &mut counters));
     number(mask[0]);
     number(mask[1]);
     write(b"\n");
@@ -55,17 +49,8 @@ fn wide(name: &[u8], width: usize) {
     let mut counters = [7u64; 67];
     let words: [i32; 0] = [];
     write(name);
-    let size = Size {
-        width,
-        height: 1,
-    };
-    answer(mask::rasterize_into(
-        &mut mask,
-        size,
-        &words,
-        &mut floats,
-        &mut counters,
-    ));
+    let size = Size { width, height: 1 };
+    answer(mask::rasterize_into(&mut mask, size, &words, &mut floats, &mut counters));
     write(b"\n");
 }
 
@@ -82,13 +67,7 @@ fn points(name: &[u8], count: i32) {
         height: 1,
     };
     write(name);
-    answer(mask::rasterize_into(
-        &mut mask,
-        size,
-        &words[..4099],
-        &mut floats,
-        &mut counters,
-    ));
+    answer(mask::rasterize_into(&mut mask, size, &words[..4099], &mut floats, &mut counters));
     write(b"\n");
 }
 
@@ -98,15 +77,74 @@ fn main() {
     let half: [i32; 11] = [0, 1, 4, 0, 0, 128, 0, 128, 256, 0, 256];
     two_cells(b"half square:", &half);
     let even_odd: [i32; 20] = [
-        1, 2, 4, 0, 0, 256, 0, 256, 256, 0, 256, 4, 0, 0, 256, 0, 256, 256, 0, 256,
+        1,
+        2,
+        4,
+        0,
+        0,
+        256,
+        0,
+        256,
+        256,
+        0,
+        256,
+        4,
+        0,
+        0,
+        256,
+        0,
+        256,
+        256,
+        0,
+        256,
     ];
     two_cells(b"square twice, even-odd:", &even_odd);
     let non_zero: [i32; 20] = [
-        0, 2, 4, 0, 0, 256, 0, 256, 256, 0, 256, 4, 0, 0, 256, 0, 256, 256, 0, 256,
+        0,
+        2,
+        4,
+        0,
+        0,
+        256,
+        0,
+        256,
+        256,
+        0,
+        256,
+        4,
+        0,
+        0,
+        256,
+        0,
+        256,
+        256,
+        0,
+        256,
     ];
     two_cells(b"square twice, non-zero:", &non_zero);
     let groups: [i32; 22] = [
-        0, 1, 4, 0, 0, 128, 0, 128, 256, 0, 256, 0, 1, 4, 0, 0, 128, 0, 128, 256, 0, 256,
+        0,
+        1,
+        4,
+        0,
+        0,
+        128,
+        0,
+        128,
+        256,
+        0,
+        256,
+        0,
+        1,
+        4,
+        0,
+        0,
+        128,
+        0,
+        128,
+        256,
+        0,
+        256,
     ];
     two_cells(b"two groups of the half square:", &groups);
     wide(b"width 4096:", 4096);

@@ -84,7 +84,7 @@ module _ (f : Format) (x y : Float) (X Y r t b s v c : Fraction) (A : Approx f x
       record { fine = h .fine; held = mul-fits f x y; rel = rel-round h m }
 
 -- ---- the quotient. The divisor's error is a part of it alone (v = 0), at most a half; its reciprocal's is w, where s ≤ w * (1 - s)
-rel-not : {y Y s : Fraction} → s ≤ᶠ 1 /2^ 1 → Rel y Y s (natᶠ 0) → ¬ (Y ≈ᶠ natᶠ 0) → ¬ (y ≈ᶠ natᶠ 0)
+pub rel-not : {y Y s : Fraction} → s ≤ᶠ 1 /2^ 1 → Rel y Y s (natᶠ 0) → ¬ (Y ≈ᶠ natᶠ 0) → ¬ (y ≈ᶠ natᶠ 0)
 rel-not {y} {Y} {s} l h f e =
     let a = abs-of-within (within-near (near-sym (h .near)) (within-abs y)) in
     let k = mul-mono-right (abs-nonneg Y) l in

@@ -38,7 +38,7 @@ module _ (x t dx dy : Float) (X : T (finite x) × T (fits binary32 x)) (S : T (f
   slope = val dx *ᶠ invᶠ (val dy)
 
   module _ (along : Within (val t *ᶠ slope) (natᶠ 8192)) (at-size : Within (val x +ᶠ val t *ᶠ slope) (natᶠ 4096)) (slope-size : Within slope (natᶠ (2 ^ 21))) where
-    pub crossing-near : Near (val (add binary32 x (mul binary32 t (div binary32 dx dy)))) (val x +ᶠ val t *ᶠ slope) (11 /2^ 13)
+    pub crossing-near : T (finite (add binary32 x (mul binary32 t (div binary32 dx dy)))) × Near (val (add binary32 x (mul binary32 t (div binary32 dx dy)))) (val x +ᶠ val t *ᶠ slope) (11 /2^ 13)
     unfolding _+ᶠ_ _-ᶠ_ _*ᶠ_
     crossing-near =
         let O = natᶠ 0 in
@@ -48,4 +48,4 @@ module _ (x t dx dy : Float) (X : T (finite x) × T (fits binary32 x)) (S : T (f
         (record { r0 = lit tt; s0 = lit tt; t0 = lit tt; v0 = lit tt; both0 = lit tt }) t-size slope-size (lit tt) in
         let n = near-add (near-refl (val x)) (rel-near (lit tt) (m .rel) along) in
         let h = add-rounds binary32 x (mul binary32 t (div binary32 dx dy)) (X .0) (m .fine) (X .1) (m .held) (within-weaken (within-near n at-size) (lit tt)) in
-        near-weaken (step h n at-size) (lit tt)
+        (h .fine, near-weaken (step h n at-size) (lit tt))
