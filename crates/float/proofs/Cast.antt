@@ -21,7 +21,7 @@ short true u a b p q h = absurd (true≢false h)
 short false true a b p q h = absurd (true≢false h)
 short false false a b p q h = let l = ltb-false a b p in let n = eqb-false a b q in omega arith
 
-second : (u v : Bool) → (u && v) ≡ true → v ≡ true
+pub second : (u v : Bool) → (u && v) ≡ true → v ≡ true
 second true v h = h
 second false v h = absurd (false≢true h)
 
@@ -30,11 +30,11 @@ module _ (w : ℕ) where
   abbrev pub top : Float
   top = fin false 1 (pos w)
 
-  tall : (m : ℕ) (e : ℤ) → le top (fin false m e) ≡ true → 2 ^ w ≤ m * up e / down e
+  pub tall : (m : ℕ) (e : ℤ) → le top (fin false m e) ≡ true → 2 ^ w ≤ m * up e / down e
   unfolding le lt eq
   tall m e h = le-div-iff-mul-le (down-pos e) .1 (simp (one-mul, mul-one) at (reached _ _ (1 * 2 ^ w * down e) (m * up e * 1) refl refl h))
 
-  low : (m : ℕ) (e : ℤ) → le top (fin false m e) ≡ false → m * up e / down e < 2 ^ w
+  pub low : (m : ℕ) (e : ℤ) → le top (fin false m e) ≡ false → m * up e / down e < 2 ^ w
   unfolding le lt eq
   low m e h = div-lt-iff-lt-mul (down-pos e) .1 (simp (one-mul, mul-one) at (short _ _ (1 * 2 ^ w * down e) (m * up e * 1) refl refl h))
 
