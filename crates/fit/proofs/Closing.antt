@@ -6,7 +6,6 @@ use Prim.Native.Nat.{ℕ, zero, suc, _+_, _-_, _≤_}
 use native.Mathlib.Numerals.{add-one}
 use native.Mathlib.Omega.{arith}
 use borrow.Author.Tests.{leb-true, eqb-true}
-use lib.Dec.{leb, eqb}
 use lib.ListN.{length, take, length-append}
 use lib.Seq.{take-append-seam}
 use lib.Ieee.{Float}
@@ -23,7 +22,7 @@ use Rattle.fit.specs.declared.Walk.{Walk}
 use Rattle.fit.specs.declared.Step.the-variants as step
 use Rattle.fit.specs.Outline.{verbsCheckOf, floatsNeededOf, allInRangeOf, unlessOf, outlineCheckOf}
 use Rattle.fit.specs.Contour.{Contour, Walked, stopped, reached, emptyOf, samePlaceOf, linePointsOf, allLinesOf}
-use Rattle.fit.specs.Fit.{parallelogramOf, closedOf, pointsOf, segmentsBoxOf, contourBoxOf, walkedBoxOf}
+use Rattle.fit.specs.Fit.{parallelogramOf, pointsOf, segmentsBoxOf, contourBoxOf, walkedBoxOf}
 use Rattle.fit.specs.Kept.{walkOf, pointsIn, Ended}
 use Rattle.fit.proofs.Walking.{empty-none, empty-some, lines-and-line}
 use Rattle.fit.proofs.Points.{pointAt, points-suc, points-length}

@@ -1,8 +1,8 @@
 -- The walk over all verbs: what is left of it, and the ends that it has kept. Assumes nothing.
 use mathlib.Core.Path.{_≡_, refl, sym, ap, _∙_, subst}
 use mathlib.Core.Bool.{Bool, true, false, cond, not, _||_}
-use mathlib.Core.List.{List, [], _∷_, _++_, append-assoc}
-use Prim.Native.Nat.{ℕ, suc, _+_, _*_, _≤_, _<_}
+use mathlib.Core.List.{List, [], _∷_, _++_}
+use Prim.Native.Nat.{ℕ, _+_, _*_, _≤_, _<_}
 use native.Mathlib.Nat.{le-refl}
 use native.Mathlib.Numerals.{add-one}
 use native.Mathlib.Omega.{arith}
@@ -22,7 +22,7 @@ use Rattle.fit.specs.declared.Walk.{Walk}
 use Rattle.fit.specs.declared.Step.{Step}
 use Rattle.fit.specs.declared.Step.the-variants as step
 use Rattle.fit.specs.Outline.{floatsOf, floatsNeededOf}
-use Rattle.fit.specs.Contour.{Contour, Walked, stopped, reached, newContour, emptyOf, samePlaceOf, moveOf, pushedOf, lineOf, drawOf, contourStepOf, byteStepOf, contourFrom, linePointsOf, allLinesOf}
+use Rattle.fit.specs.Contour.{Contour, Walked, stopped, reached, newContour, emptyOf, samePlaceOf, moveOf, pushedOf, drawOf, contourStepOf, byteStepOf, contourFrom, linePointsOf, allLinesOf}
 use Rattle.fit.specs.Fit.{contourOf}
 use Rattle.fit.specs.Kept.{walkOf, stepOf, pointsIn, Ended}
 use Rattle.fit.proofs.Scan.{floats-next}

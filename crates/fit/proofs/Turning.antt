@@ -1,17 +1,16 @@
 -- The loops over an outline's points, and its four corners. Assumes nothing.
-use mathlib.Core.Path.{_≡_, refl, sym, ap, _∙_}
-use mathlib.Core.Bool.{Bool, true, false, cond}
-use mathlib.Core.List.{List, [], _∷_, _++_, append-nil}
-use Prim.Native.Nat.{ℕ, zero, suc, _+_, _-_, _%_, _≤_, _<_}
+use mathlib.Core.Path.{_≡_, refl, sym, _∙_}
+use mathlib.Core.Bool.{Bool, true, false}
+use mathlib.Core.List.{List, [], _∷_, append-nil}
+use Prim.Native.Nat.{ℕ, suc, _+_, _-_, _%_, _≤_, _<_}
 use native.Mathlib.Nat.{le-refl, mod-lt}
 use native.Mathlib.Numerals.{add-one}
 use native.Mathlib.Omega.{arith}
-use lib.ListN.{length, getD, set}
+use lib.ListN.{length, set}
 use lib.Ieee.{Float}
 use Rattle.float.specs.Simple.{maxOf}
 use Rattle.geometry.specs.declared.Position.{Position}
 use Rattle.shape.specs.declared.MaybeBox.the-variants as maybe
-use Rattle.fit.specs.Contour.{origin}
 use Rattle.fit.specs.Fit.{reachOf, sizeBelow, sizeOf, turnsOf, turnsAtOf, cornersBelow, cornersOf, fourOf}
 use Rattle.fit.specs.Kept.{pointsIn, countOf}
 use Rattle.fit.proofs.Points.{pointAt, points-none, points-length, points-at, stored-below, stored-next}

@@ -1,18 +1,16 @@
 -- One verb of the walk: what the code keeps of a contour follows the contour. Assumes nothing.
-use mathlib.Core.Path.{_≡_, refl, sym, ap, _∙_}
-use mathlib.Core.Bool.{Bool, true, false, cond, not, _||_}
+use mathlib.Core.Path.{_≡_, refl, ap}
+use mathlib.Core.Bool.{Bool, true, false, not, _||_}
 use mathlib.Core.List.{List, [], _∷_, _++_}
-use Prim.Native.Nat.{ℕ, suc, _+_}
+use Prim.Native.Nat.{_+_}
 use native.Mathlib.Omega.{arith}
 use lib.ListN.{length, length-append}
 use lib.Ieee.{Float}
-use Rattle.geometry.specs.declared.Position.{Position}
 use Rattle.fit.specs.declared.Segment.{Segment}
 use Rattle.fit.specs.declared.Segment.the-variants as segment
 use Rattle.fit.specs.declared.Walk.{Walk}
-use Rattle.fit.specs.declared.Step.{Step}
 use Rattle.fit.specs.declared.Step.the-variants as step
-use Rattle.fit.specs.Contour.{Contour, Walked, stopped, reached, emptyOf, samePlaceOf, moveOf, pushedOf, lineOf, pushOf, drawOf, allLinesOf}
+use Rattle.fit.specs.Contour.{Contour, emptyOf, samePlaceOf, moveOf, pushedOf, pushOf, drawOf, allLinesOf}
 use Rattle.fit.specs.Kept.{walkOf, walkPushedOf, shutOf, stepOf}
 
 -- ---- lists of segments

@@ -1,5 +1,5 @@
 -- shape.rs's `parallelogram` and `fit`, for straight outlines. `⊕ ⊖ ⊗ ⊘` are binary32's operations, and each rounds once. Definitions only.
-use mathlib.Core.Bool.{Bool, true, false, cond, _&&_}
+use mathlib.Core.Bool.{Bool, cond, _&&_}
 use mathlib.Core.List.{List, [], _∷_, _++_}
 use Prim.Native.Nat.{ℕ, zero, suc, _+_, _-_, _%_}
 use lib.ListN.{length, getD, take}

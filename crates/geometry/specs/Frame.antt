@@ -2,7 +2,7 @@
 use mathlib.Core.Bool.{Bool, cond, _&&_}
 use mathlib.Core.List.{List, [], _∷_}
 use mathlib.Core.Bool.{true, false}
-use lib.Ieee.{Float, inf, binary64, ofBits, neg, add, sub, mul, div, lt}
+use lib.Ieee.{Float, inf, binary64, ofBits, neg, sub, mul, div, lt}
 use Rattle.float.specs.Ops.{_⊕_, _⊗_, f0, f1}
 use Rattle.float.specs.Simple.{minOf, maxOf}
 use Rattle.float.specs.Width.{narrowOf}

@@ -1,6 +1,5 @@
 -- Two boxes with parallel sides, and what both cover, as shape.rs computes them. Definitions only.
 use mathlib.Core.Bool.{Bool, true, false, cond, _&&_, _||_}
-use Prim.Native.Nat.{ℕ}
 use lib.Ieee.{Float, neg, lt, le, eq}
 use Rattle.float.specs.Ops.{_⊕_, _⊖_, _⊗_, f0, f½}
 use Rattle.float.specs.Simple.{absOf, minOf, maxOf}

@@ -249,7 +249,7 @@ impl RoundedBox {
         Self::improper_side(self.ey, self.ry)
     }
 
-    // 1 before 2.
+    // Document 01's causes for a box: number 1 before number 2.
     pub fn check(self) -> Check
         ensures { λ r. ⌜ r ≡ boxCheckOf self ⌝ }
     {
@@ -521,7 +521,7 @@ impl RoundedBox {
         false
     }
 
-    // Whether each axis runs along its own, and along the other.
+    // Whether each axis runs along its own, and whether each runs along the other.
     fn straight(t: Transform2D) -> bool
         ensures { λ r. ⌜ r ≡ straightOf t ⌝ }
     {

@@ -1,5 +1,5 @@
 -- `fit::all_in_range` meets its contract: the numbers passed so far are in range. Assumes nothing.
-use Prim.Native.Nat.{_+_, _-_, _≤_}
+use Prim.Native.Nat.{_-_, _≤_}
 use borrow.Author.Needs.{needs}
 use Rattle.fit.proofs.Scan.{range-next}
 use Rattle.fit.specs.Outline.{allInRangeOf}

@@ -1,6 +1,6 @@
 -- `fit::contour` meets its contract: the walk so far stands for a contour, from which the verbs left lead to where all lead. Assumes nothing.
 use Prim.Native.Nat.{_-_}
-use mathlib.Core.Path.{refl, sym, _∙_}
+use mathlib.Core.Path.{sym, _∙_}
 use borrow.Author.Needs.{needs}
 use Rattle.fit.proofs.Scan.{floats-next}
 use Rattle.fit.proofs.Contouring.{Walking, begins, count-is, ends, bad-byte, room, stops, goes}

@@ -5,7 +5,7 @@ use Rattle.fit.proofs.Scan.{floats-next, floats-le}
 use Rattle.fit.specs.Outline.{floatsNeededOf}
 use denote.Ref.{now}
 use lib.ListN.{length, getD, drop, drop-of-length-le}
-use mathlib.Core.Path.{_≡_, refl}
+use mathlib.Core.Path.{_≡_}
 use native.Mathlib.Omega.{arith}
 use Rattle.fit.proofs.floats_needed.Statement.{statement}
 use Rattle.fit.proofs.floats_needed.Tie as tie

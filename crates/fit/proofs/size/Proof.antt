@@ -5,7 +5,7 @@ use Rattle.fit.proofs.Turning.{size-none, size-next, size-all}
 use Rattle.fit.specs.Fit.{sizeBelow}
 use Rattle.fit.specs.Kept.{pointsIn}
 use denote.Ref.{now}
-use mathlib.Core.Path.{_≡_, sym, _∙_}
+use mathlib.Core.Path.{_≡_, _∙_}
 use native.Mathlib.Nat.{le-antisymm}
 use native.Mathlib.Omega.{arith}
 use Rattle.fit.proofs.size.Statement.{statement}

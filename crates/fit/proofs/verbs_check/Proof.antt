@@ -1,5 +1,5 @@
 -- `fit::verbs_check` meets its contract: the verbs passed so far pass their checks, so the first fault is among those left. Assumes nothing.
-use Prim.Native.Nat.{_+_, _-_, _≤_}
+use Prim.Native.Nat.{_-_, _≤_}
 use borrow.Author.Needs.{needs}
 use Rattle.fit.proofs.Scan.{verbs-next}
 use Rattle.fit.specs.Outline.{verbsCheckOf}
