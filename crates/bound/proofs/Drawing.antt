@@ -18,43 +18,13 @@ use Rattle.winding.specs.Winding.{exactEdges, meanWinding, groupShare}
 use Rattle.winding.specs.Drawn.{sumOfShares, drawnShare}
 use Rattle.row.specs.Sweep.{addBytes}
 use Rattle.coverage.specs.declared.Size.{Size}
-use Rattle.coverage.specs.Drawing.{groupRow, addGroups, drawingRow, rowsFrom}
+use Rattle.coverage.specs.Drawing.{groupRow, addGroups, drawingRow}
+use Rattle.coverage.proofs.Rows.{length-added}
 use Rattle.bound.proofs.Entries.{none-plus, plus-none}
 use Rattle.bound.proofs.Share.{share-range, near-nonneg}
 use Rattle.bound.proofs.GroupRow.{countAt, GroupOk}
 
--- ---- rows one after another, each w wide
-module _ (line : ℕ → List ℕ) (w : ℕ) where
-  pub rows-length : (n row : ℕ) → ((r : ℕ) → r < n → length (line (row + r)) ≡ w) → length (rowsFrom line n row) ≡ n * w
-  unfolding rowsFrom
-  rows-length zero row wide = omega arith
-  rows-length (suc n) row wide =
-      let z : row + 0 ≡ row = omega arith in
-      omega (arith, length-append (line row) (rowsFrom line n (suc row)), sym (ap (λ (k : ℕ). length (line k)) z) ∙ wide 0 (omega arith), rows-length n (suc row) (λ r k. ap (λ (j : ℕ). length (line j)) (omega arith) ∙ wide (suc r) (omega arith)))
-
-  pub rows-get : (n row r c : ℕ) → r < n → c < w → ((r : ℕ) → r < n → length (line (row + r)) ≡ w) → getD (rowsFrom line n row) (r * w + c) 0 ≡ getD (line (row + r)) c 0
-  unfolding rowsFrom
-  rows-get zero row r c k l wide = absurd (not-suc-le-zero k)
-  rows-get (suc n) row zero c k l wide =
-      let z : row + 0 ≡ row = omega arith in
-      let first : length (line row) ≡ w = sym (ap (λ (k : ℕ). length (line k)) z) ∙ wide 0 (omega arith) in
-      let i : 0 * w + c ≡ c = omega arith in
-      ap (λ (j : ℕ). getD (line row ++ rowsFrom line n (suc row)) j 0) i ∙ List·getD-append (line row) (rowsFrom line n (suc row)) 0 c (omega (arith, first)) ∙ ap (λ (j : ℕ). getD (line j) c 0) (sym z)
-  rows-get (suc n) row (suc r) c k l wide =
-      let z : row + 0 ≡ row = omega arith in
-      let first : length (line row) ≡ w = sym (ap (λ (k : ℕ). length (line k)) z) ∙ wide 0 (omega arith) in
-      let i : suc r * w + c ≡ length (line row) + (r * w + c) = omega (arith, first) in
-      let j : suc row + r ≡ row + suc r = omega arith in
-      ap (λ (j : ℕ). getD (line row ++ rowsFrom line n (suc row)) j 0) i ∙ getD-append-add (line row) (rowsFrom line n (suc row)) (r * w + c) 0
-      ∙ rows-get n (suc row) r c (le-of-suc-le-suc k) l (λ r k. ap (λ (j : ℕ). length (line j)) (omega arith) ∙ wide (suc r) (omega arith)) ∙ ap (λ (j : ℕ). getD (line j) c 0) j
-
 -- ---- bytes added
-add-length : (l bs : List ℕ) → length (addBytes l bs) ≡ length l
-unfolding addBytes
-add-length [] bs = refl
-add-length (a ∷ l) [] = refl
-add-length (a ∷ l) (b ∷ bs) = ap suc (add-length l bs)
-
 add-get : (l bs : List ℕ) (c : ℕ) → c < length l → length bs ≡ length l → getD (addBytes l bs) c 0 ≡ min (getD l c 0 + getD bs c 0) 255
 unfolding addBytes
 add-get [] bs c k e = absurd (not-suc-le-zero k)
@@ -80,20 +50,12 @@ module _ (size : Size) (row : ℕ) where
   cell [] c v = v
   cell (g ∷ gs) c v = cell gs c (min (v + getD (groupRow size g row) c 0) 255)
 
-  groups-length : (gs : List Group) (line : List ℕ) → length (addGroups size row line gs) ≡ length line
-  unfolding addGroups
-  groups-length [] line = refl
-  groups-length (g ∷ gs) line = groups-length gs (addBytes line (groupRow size g row)) ∙ add-length line (groupRow size g row)
-
   groups-get : (gs : List Group) (line : List ℕ) (c : ℕ) → length line ≡ size .width → c < size .width → GroupsOk size row gs → getD (addGroups size row line gs) c 0 ≡ cell gs c (getD line c 0)
   unfolding addGroups
   groups-get [] line c e k ok = refl
   groups-get (g ∷ gs) line c e k ok =
-      groups-get gs (addBytes line (groupRow size g row)) c (add-length line (groupRow size g row) ∙ e) k (ok .1)
+      groups-get gs (addBytes line (groupRow size g row)) c (length-added line (groupRow size g row) ∙ e) k (ok .1)
       ∙ ap (λ (v : ℕ). cell gs c v) (add-get line (groupRow size g row) c (omega (arith, e)) (ok .0 .wide ∙ sym e))
-
-  pub row-length : (gs : List Group) → length (drawingRow size gs row) ≡ size .width
-  row-length gs = groups-length gs (replicate (size .width) 0) ∙ length-replicate (size .width) 0
 
   row-get : (gs : List Group) (c : ℕ) → c < size .width → GroupsOk size row gs → getD (drawingRow size gs row) c 0 ≡ cell gs c 0
   row-get gs c k ok = groups-get gs (replicate (size .width) 0) c (length-replicate (size .width) 0) k ok ∙ ap (λ (v : ℕ). cell gs c v) (getD-replicate (size .width) c 0 0 k)

@@ -27,7 +27,7 @@ use Rattle.mask.specs.Laws.{CanDraw, DoneExactlyWhen, SameCells}
 use Rattle.mask.specs.Examples.{DrawnAsListed}
 use Rattle.mask.specs.declared.Outcome.{Outcome}
 use Rattle.mask.specs.declared.Outcome.the-variants.{Done, Refused}
-use Rattle.mask.proofs.Drawn.{drawing-long}
+use Rattle.coverage.proofs.Places.{drawing-length}
 use Rattle.mask.proofs.Cleared.{take-front}
 
 -- ---- done exactly when
@@ -86,7 +86,7 @@ same-cells s words mask other h k = front mask ∙ sym (front other)
   where
     front : (m : List ℕ) → take (cellsOf s) (drawingOf s (groupsOf words) ++ drop (cellsOf s) m) ≡ drawingOf s (groupsOf words)
     front m =
-        ap (λ (n : ℕ). take n (drawingOf s (groupsOf words) ++ drop (cellsOf s) m)) (sym (drawing-long s (groupsOf words))) ∙ take-front (drawingOf s (groupsOf words)) (drop (cellsOf s) m)
+        ap (λ (n : ℕ). take n (drawingOf s (groupsOf words) ++ drop (cellsOf s) m)) (sym (drawing-length s (groupsOf words))) ∙ take-front (drawingOf s (groupsOf words)) (drop (cellsOf s) m)
 
 -- ---- document 01's starred drawings
 pub drawn-as-listed : DrawnAsListed

@@ -1,8 +1,7 @@
--- OneGroup: one group of a list. AllGroups: one after another. Cleared: lent buffers, cleared. Answers: cause by cause. Drawn: a byte for each cell.
+-- OneGroup: one group of a list. AllGroups: one after another. Cleared: lent buffers, cleared. Answers: cause by cause.
 -- Laws: drawings as a whole, and the starred ones.
 pub mod OneGroup
 pub mod AllGroups
 pub mod Cleared
 pub mod Answers
-pub mod Drawn
 pub mod Laws
