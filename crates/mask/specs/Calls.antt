@@ -11,6 +11,7 @@ use Rattle.float.specs.Ops.{f0}
 use Rattle.words.specs.Words.{Group, pointsIn, Read, ok, fault, readWords, groupsOf}
 use Rattle.coverage.specs.declared.Size.{Size}
 use Rattle.coverage.specs.Drawing.{drawingOf}
+use Rattle.coverage.specs.Laying.{Offset, layingOf}
 use Rattle.mask.specs.declared.Outcome.{Outcome}
 use Rattle.mask.specs.declared.Outcome.the-variants.{Done, Refused}
 
@@ -61,3 +62,14 @@ floatsAfterDrawing (Refused f) floats = floats
 abbrev pub countersAfterDrawing : Outcome → List ℕ → List ℕ
 countersAfterDrawing Done counters = replicate (length counters) 0
 countersAfterDrawing (Refused f) counters = counters
+
+-- ---- laying one mask on another
+
+-- 'Laying on: 3, 4.' From the two sizes, and the lengths of the mask and of the other
+abbrev pub layAnswer : Size → Size → ℕ → ℕ → Outcome
+layAnswer size otherSize mask other =
+    cond (tooLarge size || tooLarge otherSize) (Refused MaskTooLarge) (cond (ltb mask (cellsOf size) || ltb other (cellsOf otherSize)) (Refused BufferTooShort) Done)
+
+abbrev pub maskAfterLaying : Outcome → Size → Size → Offset → List ℕ → List ℕ → List ℕ
+maskAfterLaying Done size otherSize offset mask other = layingOf size mask otherSize other offset ++ drop (cellsOf size) mask
+maskAfterLaying (Refused f) size otherSize offset mask other = mask

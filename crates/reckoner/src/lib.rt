@@ -1,0 +1,1 @@
+// The reckoner and the claim about lists of calls: definitions and proofs, no code.
