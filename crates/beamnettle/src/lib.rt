@@ -1,8 +1,6 @@
 // The kiosk's C library: document 01's calls over numbers and lent slices. include/beamnettle.h says
 // what each does in words; each contract gives its number and all that is lent afterwards outright.
 use coverage::Size;
-use fault::Fault;
-use geometry::Bounds;
 use geometry::Position;
 use geometry::Transform2D;
 use mask::Outcome;
