@@ -53,7 +53,7 @@ fn check_box(b: &Box10) -> Result<(), Refused> {
     Ok(())
 }
 
-fn boxed([a, b, c, d, x, y, width, height, rx, ry]: Box10) -> RoundedBox {
+pub(crate) fn boxed([a, b, c, d, x, y, width, height, rx, ry]: Box10) -> RoundedBox {
     RoundedBox {
         frame: Transform2D([a, b, c, d, x, y]),
         extent: [width, height],
@@ -63,10 +63,21 @@ fn boxed([a, b, c, d, x, y, width, height, rx, ry]: Box10) -> RoundedBox {
 
 fn floats(shape: RoundedBox) -> Box10 {
     let Transform2D([a, b, c, d, x, y]) = shape.frame;
-    [a, b, c, d, x, y, shape.extent[0], shape.extent[1], shape.radii[0], shape.radii[1]]
+    [
+        a,
+        b,
+        c,
+        d,
+        x,
+        y,
+        shape.extent[0],
+        shape.extent[1],
+        shape.radii[0],
+        shape.radii[1],
+    ]
 }
 
-fn covering(c: &Coverage11) -> ClipCoverage {
+pub(crate) fn covering(c: &Coverage11) -> ClipCoverage {
     ClipCoverage {
         linear: [c[0], c[1], c[2], c[3]],
         offset: [c[4], c[5]],
@@ -135,13 +146,20 @@ impl Drawing {
         if width * height == 0 {
             return &[];
         }
-        MaskKey::of([width as u32, height as u32], words).rasterize_into(&mut self.coverage, &mut self.mask);
+        MaskKey::of([width as u32, height as u32], words)
+            .rasterize_into(&mut self.coverage, &mut self.mask);
         &self.mask
     }
 }
 
 /// Lays the other mask on a mask.
-pub fn lay(mask: &mut [u8], size: [usize; 2], other: &[u8], other_size: [usize; 2], offset: [i32; 2]) -> Result<(), Refused> {
+pub fn lay(
+    mask: &mut [u8],
+    size: [usize; 2],
+    other: &[u8],
+    other_size: [usize; 2],
+    offset: [i32; 2],
+) -> Result<(), Refused> {
     if size.iter().chain(&other_size).any(|side| *side > 4096) {
         return Err(MASK_TOO_LARGE);
     }
@@ -178,6 +196,11 @@ fn check_outline(verbs: &[u8], positions: &[f32]) -> Result<(), Refused> {
 
 pub fn fit(verbs: &[u8], positions: &[f32]) -> Result<Option<Box10>, Refused> {
     check_outline(verbs, positions)?;
+    Ok(RoundedBox::fit(&path(verbs, positions)).map(floats))
+}
+
+/// The path of an outline without a fault.
+pub(crate) fn path(verbs: &[u8], positions: &[f32]) -> Path {
     let mut path = Path::new();
     let mut positions = positions.chunks_exact(2);
     for verb in verbs {
@@ -195,7 +218,7 @@ pub fn fit(verbs: &[u8], positions: &[f32]) -> Result<Option<Box10>, Refused> {
             _ => path.close(),
         }
     }
-    Ok(RoundedBox::fit(&path).map(floats))
+    path
 }
 
 pub fn transformed(b: Box10, frame: Frame) -> Result<Box10, Refused> {
@@ -209,7 +232,19 @@ pub fn coverage(b: Box10, fringe: f32) -> Result<Option<Coverage11>, Refused> {
     check(fringe)?;
     Ok(boxed(b).coverage(fringe).map(|c| {
         let [a, b, d, e] = c.linear;
-        [a, b, d, e, c.offset[0], c.offset[1], c.extent[0], c.extent[1], c.radii[0], c.radii[1], c.strays]
+        [
+            a,
+            b,
+            d,
+            e,
+            c.offset[0],
+            c.offset[1],
+            c.extent[0],
+            c.extent[1],
+            c.radii[0],
+            c.radii[1],
+            c.strays,
+        ]
     }))
 }
 

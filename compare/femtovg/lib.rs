@@ -12,6 +12,7 @@ mod clip {
 mod geometry;
 mod meanings;
 mod path;
+pub mod plain;
 
 pub(crate) use path::{Path, Verb};
 

@@ -1,0 +1,92 @@
+//! femtovg's own calls, without document 01's refusals, for timing.
+use crate::{
+    calls::{boxed, covering, path, Box10, Coverage11, Frame},
+    clip::{
+        coverage::Coverage,
+        mask::MaskKey,
+        shape::{ClipCoverage, RoundedBox},
+    },
+    geometry::Transform2D,
+    Path,
+};
+use std::hint::black_box;
+
+/// A drawing's key, as the engine keeps it.
+pub struct Key(MaskKey);
+
+/// What the engine keeps between drawings.
+#[derive(Default)]
+pub struct Scratch {
+    coverage: Coverage,
+    mask: Vec<u8>,
+}
+
+impl Key {
+    pub fn new(size: [usize; 2], words: Vec<i32>) -> Self {
+        Self(MaskKey::of(size.map(|cells| cells as u32), words))
+    }
+
+    pub fn draw<'a>(&self, scratch: &'a mut Scratch) -> &'a [u8] {
+        self.0
+            .rasterize_into(&mut scratch.coverage, &mut scratch.mask);
+        &scratch.mask
+    }
+}
+
+pub struct Shape(RoundedBox);
+pub struct Covering(ClipCoverage);
+pub struct Outline(Path);
+
+impl Shape {
+    pub fn new(floats: Box10) -> Self {
+        Self(boxed(floats))
+    }
+
+    pub fn transformed(&self, frame: Frame) {
+        black_box(black_box(&self.0).transformed(&Transform2D(frame)));
+    }
+
+    pub fn coverage(&self, fringe: f32) {
+        black_box(black_box(&self.0).coverage(fringe));
+    }
+
+    pub fn intersection(&self, other: &Shape, fringe: f32) {
+        black_box(black_box(&self.0).intersection(&other.0, fringe));
+    }
+
+    pub fn rect_intersection(&self, other: &Shape) {
+        black_box(black_box(&self.0).rect_intersection(&other.0));
+    }
+
+    pub fn parallel(&self, other: &Shape) {
+        black_box(black_box(&self.0).parallel(&other.0));
+    }
+
+    pub fn bounds(&self) {
+        black_box(black_box(&self.0).bounds());
+    }
+}
+
+impl Covering {
+    pub fn new(floats: &Coverage11) -> Self {
+        Self(covering(floats))
+    }
+
+    pub fn distance(&self, point: [f32; 2]) {
+        black_box(black_box(&self.0).distance(point));
+    }
+
+    pub fn contains(&self, shape: &Shape) {
+        black_box(black_box(&self.0).contains(&shape.0));
+    }
+}
+
+impl Outline {
+    pub fn new(verbs: &[u8], positions: &[f32]) -> Self {
+        Self(path(verbs, positions))
+    }
+
+    pub fn fit(&self) {
+        black_box(RoundedBox::fit(black_box(&self.0)));
+    }
+}

@@ -1,0 +1,215 @@
+//! The kiosk's C library (include/beamnettle.h), behind safe calls.
+
+pub const DONE: u8 = 0;
+pub const TOO_SHORT: u8 = 4;
+pub const NONE: u8 = 13;
+pub const YES: u8 = 14;
+pub const NO: u8 = 15;
+
+mod c {
+    #[link(name = "beamnettle", kind = "static")]
+    extern "C" {
+        pub fn beamnettle_draw(
+            mask: *mut u8,
+            mask_length: usize,
+            width: usize,
+            height: usize,
+            words: *const i32,
+            words_length: usize,
+            floats: *mut f32,
+            floats_length: usize,
+            counters: *mut u64,
+            counters_length: usize,
+        ) -> u8;
+        pub fn beamnettle_fit(
+            verbs: *const u8,
+            verbs_length: usize,
+            positions: *const f32,
+            positions_length: usize,
+            out: *mut f32,
+            out_length: usize,
+        ) -> u8;
+        pub fn beamnettle_transformed(
+            shape: *const f32,
+            shape_length: usize,
+            frame: *const f32,
+            frame_length: usize,
+            out: *mut f32,
+            out_length: usize,
+        ) -> u8;
+        pub fn beamnettle_intersection(
+            one: *const f32,
+            one_length: usize,
+            two: *const f32,
+            two_length: usize,
+            fringe: f32,
+            out: *mut f32,
+            out_length: usize,
+        ) -> u8;
+        pub fn beamnettle_rect_intersection(
+            one: *const f32,
+            one_length: usize,
+            two: *const f32,
+            two_length: usize,
+            out: *mut f32,
+            out_length: usize,
+        ) -> u8;
+        pub fn beamnettle_coverage(
+            shape: *const f32,
+            shape_length: usize,
+            fringe: f32,
+            out: *mut f32,
+            out_length: usize,
+        ) -> u8;
+        pub fn beamnettle_bounds(
+            shape: *const f32,
+            shape_length: usize,
+            out: *mut f32,
+            out_length: usize,
+        ) -> u8;
+        pub fn beamnettle_distance(
+            coverage: *const f32,
+            coverage_length: usize,
+            x: f32,
+            y: f32,
+            out: *mut f32,
+            out_length: usize,
+        ) -> u8;
+        pub fn beamnettle_parallel(
+            one: *const f32,
+            one_length: usize,
+            two: *const f32,
+            two_length: usize,
+        ) -> u8;
+        pub fn beamnettle_contains(
+            coverage: *const f32,
+            coverage_length: usize,
+            shape: *const f32,
+            shape_length: usize,
+        ) -> u8;
+    }
+}
+
+// Each call lends whole slices, which Rust keeps valid, aligned and apart while it runs.
+
+pub fn draw(
+    mask: &mut [u8],
+    size: [usize; 2],
+    words: &[i32],
+    floats: &mut [f32],
+    counters: &mut [u64],
+) -> u8 {
+    let [width, height] = size;
+    unsafe {
+        c::beamnettle_draw(
+            mask.as_mut_ptr(),
+            mask.len(),
+            width,
+            height,
+            words.as_ptr(),
+            words.len(),
+            floats.as_mut_ptr(),
+            floats.len(),
+            counters.as_mut_ptr(),
+            counters.len(),
+        )
+    }
+}
+
+pub fn fit(verbs: &[u8], positions: &[f32], out: &mut [f32]) -> u8 {
+    unsafe {
+        c::beamnettle_fit(
+            verbs.as_ptr(),
+            verbs.len(),
+            positions.as_ptr(),
+            positions.len(),
+            out.as_mut_ptr(),
+            out.len(),
+        )
+    }
+}
+
+pub fn transformed(shape: &[f32], frame: &[f32], out: &mut [f32]) -> u8 {
+    unsafe {
+        c::beamnettle_transformed(
+            shape.as_ptr(),
+            shape.len(),
+            frame.as_ptr(),
+            frame.len(),
+            out.as_mut_ptr(),
+            out.len(),
+        )
+    }
+}
+
+pub fn intersection(one: &[f32], two: &[f32], fringe: f32, out: &mut [f32]) -> u8 {
+    unsafe {
+        c::beamnettle_intersection(
+            one.as_ptr(),
+            one.len(),
+            two.as_ptr(),
+            two.len(),
+            fringe,
+            out.as_mut_ptr(),
+            out.len(),
+        )
+    }
+}
+
+pub fn rect_intersection(one: &[f32], two: &[f32], out: &mut [f32]) -> u8 {
+    unsafe {
+        c::beamnettle_rect_intersection(
+            one.as_ptr(),
+            one.len(),
+            two.as_ptr(),
+            two.len(),
+            out.as_mut_ptr(),
+            out.len(),
+        )
+    }
+}
+
+pub fn coverage(shape: &[f32], fringe: f32, out: &mut [f32]) -> u8 {
+    unsafe {
+        c::beamnettle_coverage(
+            shape.as_ptr(),
+            shape.len(),
+            fringe,
+            out.as_mut_ptr(),
+            out.len(),
+        )
+    }
+}
+
+pub fn bounds(shape: &[f32], out: &mut [f32]) -> u8 {
+    unsafe { c::beamnettle_bounds(shape.as_ptr(), shape.len(), out.as_mut_ptr(), out.len()) }
+}
+
+pub fn distance(coverage: &[f32], point: [f32; 2], out: &mut [f32]) -> u8 {
+    let [x, y] = point;
+    unsafe {
+        c::beamnettle_distance(
+            coverage.as_ptr(),
+            coverage.len(),
+            x,
+            y,
+            out.as_mut_ptr(),
+            out.len(),
+        )
+    }
+}
+
+pub fn parallel(one: &[f32], two: &[f32]) -> u8 {
+    unsafe { c::beamnettle_parallel(one.as_ptr(), one.len(), two.as_ptr(), two.len()) }
+}
+
+pub fn contains(coverage: &[f32], shape: &[f32]) -> u8 {
+    unsafe {
+        c::beamnettle_contains(
+            coverage.as_ptr(),
+            coverage.len(),
+            shape.as_ptr(),
+            shape.len(),
+        )
+    }
+}

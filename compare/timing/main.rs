@@ -1,0 +1,279 @@
+//! Times Beamnettle beside femtovg's Rust, in one process, in turns. Prints medians as a table.
+#[path = "../side_by_side/library.rs"]
+#[allow(dead_code)]
+mod library;
+
+use femtovg::{
+    calls::{self, Box10},
+    plain::{Covering, Key, Outline, Scratch, Shape},
+};
+use std::{
+    f64::consts::TAU,
+    hint::black_box,
+    time::{Duration, Instant},
+};
+
+const ROUNDS: usize = 31;
+const ROUND: Duration = Duration::from_millis(12);
+
+/// How long one of `times` runs takes.
+fn one(times: u32, run: &mut dyn FnMut()) -> f64 {
+    let start = Instant::now();
+    for _ in 0..times {
+        run();
+    }
+    start.elapsed().as_secs_f64() / times as f64
+}
+
+fn median(mut times: Vec<f64>) -> f64 {
+    times.sort_by(f64::total_cmp);
+    times[times.len() / 2]
+}
+
+/// Times both in turns, and prints a line of the table.
+fn line(name: &str, old: &mut dyn FnMut(), new: &mut dyn FnMut()) {
+    let guess = one(1, old).max(one(1, old).min(one(1, new)));
+    let times = (ROUND.as_secs_f64() / guess).clamp(1.0, 1e6) as u32;
+    let (mut olds, mut news, mut ratios) = (vec![], vec![], vec![]);
+    for _ in 0..ROUNDS {
+        olds.push(one(times, old));
+        news.push(one(times, new));
+        ratios.push(news[news.len() - 1] / olds[olds.len() - 1]);
+    }
+    let (old, new, ratio) = (median(olds), median(news), median(ratios));
+    println!("| {name} | {} | {} | {ratio:.2} |", shown(old), shown(new));
+}
+
+fn shown(seconds: f64) -> String {
+    match seconds {
+        s if s < 1e-6 => format!("{:.0} ns", s * 1e9),
+        s if s < 1e-3 => format!("{:.1} µs", s * 1e6),
+        s => format!("{:.2} ms", s * 1e3),
+    }
+}
+
+// ---- drawings
+
+type Contour = Vec<[i32; 2]>;
+
+fn words(groups: &[Vec<Contour>]) -> Vec<i32> {
+    let mut words = Vec::new();
+    for contours in groups {
+        words.extend([0, contours.len() as i32]);
+        for contour in contours {
+            words.push(contour.len() as i32);
+            words.extend(contour.iter().flatten());
+        }
+    }
+    words
+}
+
+/// A point in cells, in words.
+fn at(x: f64, y: f64) -> [i32; 2] {
+    [(x * 256.0) as i32, (y * 256.0) as i32]
+}
+
+/// A turned rectangle.
+fn frame(centre: [f64; 2], half: [f64; 2], angle: f64) -> Contour {
+    let (sin, cos) = angle.sin_cos();
+    [[-1.0, -1.0], [1.0, -1.0], [1.0, 1.0], [-1.0, 1.0]]
+        .map(|[x, y]| {
+            let (x, y) = (x * half[0], y * half[1]);
+            at(centre[0] + cos * x - sin * y, centre[1] + sin * x + cos * y)
+        })
+        .to_vec()
+}
+
+/// A star, or with equal reaches a regular polygon.
+fn star(centre: [f64; 2], reaches: [f64; 2], points: usize) -> Contour {
+    (0..points)
+        .map(|i| {
+            let (sin, cos) = (i as f64 * TAU / points as f64).sin_cos();
+            at(
+                centre[0] + reaches[i % 2] * cos,
+                centre[1] + reaches[i % 2] * sin,
+            )
+        })
+        .collect()
+}
+
+fn draw(name: &str, size: [usize; 2], groups: &[Vec<Contour>]) {
+    let [width, height] = size;
+    let words = words(groups);
+    let points: usize = groups.iter().flatten().map(Vec::len).sum();
+    let mut mask = vec![0; width * height];
+    let mut floats = vec![0.0; width + 15 * points];
+    let mut counters = vec![0; width.div_ceil(64) + height + 1];
+    let (key, mut scratch) = (Key::new(size, words.clone()), Scratch::default());
+    assert_eq!(
+        library::draw(&mut mask, size, &words, &mut floats, &mut counters),
+        library::DONE
+    );
+    assert!(key.draw(&mut scratch) == mask, "{name}: masks differ");
+    line(
+        name,
+        &mut || {
+            black_box(key.draw(&mut scratch));
+        },
+        &mut || {
+            black_box(library::draw(
+                black_box(&mut mask),
+                size,
+                &words,
+                &mut floats,
+                &mut counters,
+            ));
+        },
+    );
+}
+
+fn drawings() {
+    let frames: Vec<Contour> = [
+        (0.25, 0.3, 0.1),
+        (0.7, 0.28, -0.3),
+        (0.3, 0.72, 0.5),
+        (0.72, 0.7, -0.15),
+    ]
+    .map(|(x, y, angle)| frame([x * 1024.0, y * 1024.0], [200.0, 150.0], angle))
+    .to_vec();
+    draw(
+        "a card of four turned frames, 1,024 x 1,024",
+        [1024, 1024],
+        &[frames],
+    );
+    let large = frame([2048.0, 2048.0], [1700.0, 1200.0], 0.2);
+    draw(
+        "a turned frame, 4,096 x 4,096",
+        [4096, 4096],
+        &[vec![large]],
+    );
+    let wide = star([512.0, 512.0], [500.0, 300.0], 2048);
+    draw(
+        "a star of 2,048 points, 1,024 x 1,024",
+        [1024, 1024],
+        &[vec![wide]],
+    );
+    let small: Vec<Contour> = (0..256)
+        .map(|i| {
+            star(
+                [(i % 16 * 32 + 16) as f64, (i / 16 * 32 + 16) as f64],
+                [12.0, 12.0],
+                8,
+            )
+        })
+        .collect();
+    draw(
+        "256 small contours, one group, 512 x 512",
+        [512, 512],
+        &[small.clone()],
+    );
+    let apart: Vec<Vec<Contour>> = small.into_iter().map(|contour| vec![contour]).collect();
+    draw(
+        "256 small contours, a group each, 512 x 512",
+        [512, 512],
+        &apart,
+    );
+    let fan = (0..30)
+        .map(|i| {
+            vec![
+                at(0.0, 32.0),
+                at(4096.0, i as f64 * 2.1 + 0.3),
+                at(4096.0, i as f64 * 2.1 + 1.1),
+            ]
+        })
+        .collect();
+    draw("a fan of thirty slivers, 4,096 x 64", [4096, 64], &[fan]);
+    draw(
+        "a turned frame, 16 x 16",
+        [16, 16],
+        &[vec![frame([8.0, 8.0], [6.0, 4.0], 0.4)]],
+    );
+}
+
+// ---- boxes
+
+fn boxes() {
+    let (sin, cos) = 0.3f32.sin_cos();
+    let one: Box10 = [cos, sin, -sin, cos, 100.0, 80.0, 40.0, 30.0, 6.0, 5.0];
+    let two: Box10 = [cos, sin, -sin, cos, 110.0, 90.0, 35.0, 28.0, 6.0, 5.0];
+    let square = |mut shape: Box10| {
+        shape[8..].fill(0.0);
+        shape
+    };
+    let (first, second) = (Shape::new(one), Shape::new(two));
+    let (rect, other) = (square(one), square(two));
+    let (old_rect, old_other) = (Shape::new(rect), Shape::new(other));
+    let floats = calls::coverage(one, 1.0)
+        .ok()
+        .flatten()
+        .expect("a coverage");
+    let (covering, frame, point) = (
+        Covering::new(&floats),
+        [1.0, 0.1, -0.1, 1.0, 3.0, 4.0],
+        [112.0, 71.0],
+    );
+    let (verbs, positions) = ([0, 1, 1, 1, 5], [0.0, 0.0, 4.0, 1.0, 3.0, 5.0, -1.0, 4.0]);
+    let outline = Outline::new(&verbs, &positions);
+    let mut out = [0.0; 11];
+    let out = &mut out[..];
+    line("fit", &mut || outline.fit(), &mut || {
+        black_box(library::fit(black_box(&verbs), &positions, out));
+    });
+    line(
+        "transformed",
+        &mut || first.transformed(black_box(frame)),
+        &mut || {
+            black_box(library::transformed(black_box(&one), &frame, out));
+        },
+    );
+    line(
+        "coverage",
+        &mut || first.coverage(black_box(1.0)),
+        &mut || {
+            black_box(library::coverage(black_box(&one), 1.0, out));
+        },
+    );
+    line(
+        "intersection, round",
+        &mut || first.intersection(&second, black_box(1.0)),
+        &mut || {
+            black_box(library::intersection(black_box(&one), &two, 1.0, out));
+        },
+    );
+    line(
+        "intersection, square",
+        &mut || old_rect.intersection(&old_other, black_box(1.0)),
+        &mut || {
+            black_box(library::intersection(black_box(&rect), &other, 1.0, out));
+        },
+    );
+    line(
+        "rect_intersection",
+        &mut || old_rect.rect_intersection(&old_other),
+        &mut || {
+            black_box(library::rect_intersection(black_box(&rect), &other, out));
+        },
+    );
+    line("parallel", &mut || first.parallel(&second), &mut || {
+        black_box(library::parallel(black_box(&one), &two));
+    });
+    line("bounds", &mut || first.bounds(), &mut || {
+        black_box(library::bounds(black_box(&one), out));
+    });
+    line(
+        "distance",
+        &mut || covering.distance(black_box(point)),
+        &mut || {
+            black_box(library::distance(black_box(&floats), point, out));
+        },
+    );
+    line("contains", &mut || covering.contains(&second), &mut || {
+        black_box(library::contains(black_box(&floats), &two));
+    });
+}
+
+fn main() {
+    println!("| call | old | new | new / old |\n|---|---|---|---|");
+    drawings();
+    boxes();
+}

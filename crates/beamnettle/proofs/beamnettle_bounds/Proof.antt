@@ -1,0 +1,56 @@
+-- `beamnettle::beamnettle_bounds` meets its contract. Assumes nothing.
+use borrow.Author.Needs.{needs}
+use mathlib.Core.Path.{_≡_, ap, _∙_}
+use Rattle.fault.specs.declared.Fault.the-variants.{BufferTooShort}
+use Rattle.shape.specs.declared.RoundedBox.{RoundedBox}
+use Rattle.shape.specs.declared.BoundsAnswer.{BoundsAnswer}
+use Rattle.shape.specs.declared.BoundsAnswer.the-variants.{Refused}
+use Rattle.shape.specs.Calls.{boundsCall}
+use Rattle.beamnettle.specs.Lent.{boxIn}
+use Rattle.beamnettle.specs.Calls.{boundsNumber, boundsAfter, boundsLent}
+use Rattle.beamnettle.proofs.Short.{kept, turned}
+use Rattle.beamnettle.proofs.beamnettle_bounds.Statement.{statement}
+use Rattle.beamnettle.proofs.beamnettle_bounds.Tie as tie
+
+returns : tie.Need-returns
+returns c =
+    let e : Refused BufferTooShort ≡ boundsLent (c .before .before .before .args .b .now) (c .before .before .before .args .out .now) = turned _ _ _ _ (c .if1 .taken) in
+    (ap boundsNumber e, ap (λ (a : BoundsAnswer). boundsAfter a (c .before .before .before .args .out .now)) e)
+
+returns-2 : tie.Need-returns-2
+returns-2 c =
+    let e : Refused BufferTooShort ≡ boundsLent (c .before .before .before .before .args .b .now) (c .before .before .before .before .args .out .now) = turned _ _ _ _ (c .if2 .taken) ∙ kept _ _ _ _ (c .before .if1 .left) in
+    (ap boundsNumber e, ap (λ (a : BoundsAnswer). boundsAfter a (c .before .before .before .before .args .out .now)) e)
+
+box-in-requires : tie.Need-box-in-requires
+box-in-requires c κs = search needs
+
+bounds-requires : tie.Need-bounds-requires
+bounds-requires c κs = search needs
+
+hand-bounds-requires : tie.Need-hand-bounds-requires
+hand-bounds-requires c κs = search needs
+
+same-length : tie.Need-same-length
+same-length c = search needs
+
+returns-3 : tie.Need-returns-3
+returns-3 c =
+    let told : c .before .before .before .before .bounds .result ≡ boundsLent (c .before .before .before .before .before .before .before .before .before .before .args .b .now) (c .before .before .before .before .before .before .before .before .before .before .args .out .now) =
+    c .before .before .before .before .bounds .ensures
+    ∙ ap (λ (v : RoundedBox). boundsCall v) (c .before .before .before .before .before .box-in .ensures)
+    ∙ kept _ _ _ _ (c .before .before .before .before .before .before .if2 .left)
+    ∙ kept _ _ _ _ (c .before .before .before .before .before .before .before .if1 .left) in
+    (c .before .before .hand-bounds .ensures .0 ∙ ap boundsNumber told, c .before .before .hand-bounds .ensures .1 ∙ ap (λ (a : BoundsAnswer). boundsAfter a (c .before .before .before .before .before .before .before .before .before .before .args .out .now)) told)
+
+pub beamnettle-bounds-spec : {M : Type 1} → statement M
+beamnettle-bounds-spec =
+    tie.close
+    (tie.spec
+    returns
+    returns-2
+    box-in-requires
+    bounds-requires
+    hand-bounds-requires
+    same-length
+    returns-3)

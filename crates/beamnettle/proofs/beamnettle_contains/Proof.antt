@@ -1,0 +1,58 @@
+-- `beamnettle::beamnettle_contains` meets its contract. Assumes nothing.
+use borrow.Author.Needs.{needs}
+use mathlib.Core.Path.{_≡_, ap, _∙_}
+use Rattle.fault.specs.declared.Fault.the-variants.{BufferTooShort}
+use Rattle.shape.specs.declared.ClipCoverage.{ClipCoverage}
+use Rattle.shape.specs.declared.RoundedBox.{RoundedBox}
+use Rattle.shape.specs.declared.TestAnswer.{TestAnswer}
+use Rattle.shape.specs.declared.TestAnswer.the-variants.{Refused}
+use Rattle.shape.specs.Calls.{containsCall}
+use Rattle.beamnettle.specs.Lent.{boxIn, coverageIn}
+use Rattle.beamnettle.specs.Calls.{testNumber, containsLent}
+use Rattle.beamnettle.proofs.Short.{kept, turned}
+use Rattle.beamnettle.proofs.beamnettle_contains.Statement.{statement}
+use Rattle.beamnettle.proofs.beamnettle_contains.Tie as tie
+
+returns : tie.Need-returns
+returns c =
+    let e : Refused BufferTooShort ≡ containsLent (c .before .before .before .args .k .now) (c .before .before .before .args .b .now) = turned _ _ _ _ (c .if1 .taken) in
+    ap testNumber e
+
+returns-2 : tie.Need-returns-2
+returns-2 c =
+    let e : Refused BufferTooShort ≡ containsLent (c .before .before .before .before .args .k .now) (c .before .before .before .before .args .b .now) = turned _ _ _ _ (c .if2 .taken) ∙ kept _ _ _ _ (c .before .if1 .left) in
+    ap testNumber e
+
+coverage-in-requires : tie.Need-coverage-in-requires
+coverage-in-requires c κs = search needs
+
+box-in-requires : tie.Need-box-in-requires
+box-in-requires c κs = search needs
+
+contains-requires : tie.Need-contains-requires
+contains-requires c κs = search needs
+
+test-number-requires : tie.Need-test-number-requires
+test-number-requires c κs = search needs
+
+returns-3 : tie.Need-returns-3
+returns-3 c =
+    let told : c .before .contains .result ≡ containsLent (c .before .before .before .before .before .before .before .before .args .k .now) (c .before .before .before .before .before .before .before .before .args .b .now) =
+    c .before .contains .ensures
+    ∙ ap (λ (v : ClipCoverage). containsCall v (c .before .before .box-in .result)) (c .before .before .before .coverage-in .ensures)
+    ∙ ap (λ (v : RoundedBox). containsCall (coverageIn (c .before .before .before .before .before .before .before .before .args .k .now)) v) (c .before .before .box-in .ensures)
+    ∙ kept _ _ _ _ (c .before .before .before .before .if2 .left)
+    ∙ kept _ _ _ _ (c .before .before .before .before .before .if1 .left) in
+    c .test-number .ensures ∙ ap testNumber told
+
+pub beamnettle-contains-spec : {M : Type 1} → statement M
+beamnettle-contains-spec =
+    tie.close
+    (tie.spec
+    returns
+    returns-2
+    coverage-in-requires
+    box-in-requires
+    contains-requires
+    test-number-requires
+    returns-3)

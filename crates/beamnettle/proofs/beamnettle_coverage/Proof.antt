@@ -1,0 +1,56 @@
+-- `beamnettle::beamnettle_coverage` meets its contract. Assumes nothing.
+use borrow.Author.Needs.{needs}
+use mathlib.Core.Path.{_≡_, ap, _∙_}
+use Rattle.fault.specs.declared.Fault.the-variants.{BufferTooShort}
+use Rattle.shape.specs.declared.RoundedBox.{RoundedBox}
+use Rattle.shape.specs.declared.CoverageAnswer.{CoverageAnswer}
+use Rattle.shape.specs.declared.CoverageAnswer.the-variants.{Refused}
+use Rattle.shape.specs.Calls.{coverageCall}
+use Rattle.beamnettle.specs.Lent.{boxIn}
+use Rattle.beamnettle.specs.Calls.{coverageNumber, coverageAfter, coverageLent}
+use Rattle.beamnettle.proofs.Short.{kept, turned}
+use Rattle.beamnettle.proofs.beamnettle_coverage.Statement.{statement}
+use Rattle.beamnettle.proofs.beamnettle_coverage.Tie as tie
+
+returns : tie.Need-returns
+returns c =
+    let e : Refused BufferTooShort ≡ coverageLent (c .before .before .before .args .b .now) (c .before .before .before .args .fringe) (c .before .before .before .args .out .now) = turned _ _ _ _ (c .if1 .taken) in
+    (ap coverageNumber e, ap (λ (a : CoverageAnswer). coverageAfter a (c .before .before .before .args .out .now)) e)
+
+returns-2 : tie.Need-returns-2
+returns-2 c =
+    let e : Refused BufferTooShort ≡ coverageLent (c .before .before .before .before .args .b .now) (c .before .before .before .before .args .fringe) (c .before .before .before .before .args .out .now) = turned _ _ _ _ (c .if2 .taken) ∙ kept _ _ _ _ (c .before .if1 .left) in
+    (ap coverageNumber e, ap (λ (a : CoverageAnswer). coverageAfter a (c .before .before .before .before .args .out .now)) e)
+
+box-in-requires : tie.Need-box-in-requires
+box-in-requires c κs = search needs
+
+coverage-requires : tie.Need-coverage-requires
+coverage-requires c κs = search needs
+
+hand-coverage-requires : tie.Need-hand-coverage-requires
+hand-coverage-requires c κs = search needs
+
+same-length : tie.Need-same-length
+same-length c = search needs
+
+returns-3 : tie.Need-returns-3
+returns-3 c =
+    let told : c .before .before .before .before .coverage .result ≡ coverageLent (c .before .before .before .before .before .before .before .before .before .before .args .b .now) (c .before .before .before .before .before .before .before .before .before .before .args .fringe) (c .before .before .before .before .before .before .before .before .before .before .args .out .now) =
+    c .before .before .before .before .coverage .ensures
+    ∙ ap (λ (v : RoundedBox). coverageCall v (c .before .before .before .before .before .before .before .before .before .before .args .fringe)) (c .before .before .before .before .before .box-in .ensures)
+    ∙ kept _ _ _ _ (c .before .before .before .before .before .before .if2 .left)
+    ∙ kept _ _ _ _ (c .before .before .before .before .before .before .before .if1 .left) in
+    (c .before .before .hand-coverage .ensures .0 ∙ ap coverageNumber told, c .before .before .hand-coverage .ensures .1 ∙ ap (λ (a : CoverageAnswer). coverageAfter a (c .before .before .before .before .before .before .before .before .before .before .args .out .now)) told)
+
+pub beamnettle-coverage-spec : {M : Type 1} → statement M
+beamnettle-coverage-spec =
+    tie.close
+    (tie.spec
+    returns
+    returns-2
+    box-in-requires
+    coverage-requires
+    hand-coverage-requires
+    same-length
+    returns-3)

@@ -1,0 +1,56 @@
+-- `beamnettle::beamnettle_distance` meets its contract. Assumes nothing.
+use borrow.Author.Needs.{needs}
+use mathlib.Core.Path.{_≡_, ap, _∙_}
+use Rattle.fault.specs.declared.Fault.the-variants.{BufferTooShort}
+use Rattle.shape.specs.declared.ClipCoverage.{ClipCoverage}
+use Rattle.shape.specs.declared.DistanceAnswer.{DistanceAnswer}
+use Rattle.shape.specs.declared.DistanceAnswer.the-variants.{Refused}
+use Rattle.shape.specs.Calls.{distanceCall}
+use Rattle.beamnettle.specs.Lent.{coverageIn}
+use Rattle.beamnettle.specs.Calls.{distanceNumber, distanceAfter, distanceLent}
+use Rattle.beamnettle.proofs.Short.{kept, turned}
+use Rattle.beamnettle.proofs.beamnettle_distance.Statement.{statement}
+use Rattle.beamnettle.proofs.beamnettle_distance.Tie as tie
+
+returns : tie.Need-returns
+returns c =
+    let e : Refused BufferTooShort ≡ distanceLent (c .before .before .before .args .k .now) (c .before .before .before .args .x) (c .before .before .before .args .y) (c .before .before .before .args .out .now) = turned _ _ _ _ (c .if1 .taken) in
+    (ap distanceNumber e, ap (λ (a : DistanceAnswer). distanceAfter a (c .before .before .before .args .out .now)) e)
+
+returns-2 : tie.Need-returns-2
+returns-2 c =
+    let e : Refused BufferTooShort ≡ distanceLent (c .before .before .before .before .args .k .now) (c .before .before .before .before .args .x) (c .before .before .before .before .args .y) (c .before .before .before .before .args .out .now) = turned _ _ _ _ (c .if2 .taken) ∙ kept _ _ _ _ (c .before .if1 .left) in
+    (ap distanceNumber e, ap (λ (a : DistanceAnswer). distanceAfter a (c .before .before .before .before .args .out .now)) e)
+
+coverage-in-requires : tie.Need-coverage-in-requires
+coverage-in-requires c κs = search needs
+
+distance-requires : tie.Need-distance-requires
+distance-requires c κs = search needs
+
+hand-distance-requires : tie.Need-hand-distance-requires
+hand-distance-requires c κs = search needs
+
+same-length : tie.Need-same-length
+same-length c = search needs
+
+returns-3 : tie.Need-returns-3
+returns-3 c =
+    let told : c .before .before .before .before .distance .result ≡ distanceLent (c .before .before .before .before .before .before .before .before .before .before .args .k .now) (c .before .before .before .before .before .before .before .before .before .before .args .x) (c .before .before .before .before .before .before .before .before .before .before .args .y) (c .before .before .before .before .before .before .before .before .before .before .args .out .now) =
+    c .before .before .before .before .distance .ensures
+    ∙ ap (λ (v : ClipCoverage). distanceCall v (record { x = c .before .before .before .before .before .before .before .before .before .before .args .x; y = c .before .before .before .before .before .before .before .before .before .before .args .y })) (c .before .before .before .before .before .coverage-in .ensures)
+    ∙ kept _ _ _ _ (c .before .before .before .before .before .before .if2 .left)
+    ∙ kept _ _ _ _ (c .before .before .before .before .before .before .before .if1 .left) in
+    (c .before .before .hand-distance .ensures .0 ∙ ap distanceNumber told, c .before .before .hand-distance .ensures .1 ∙ ap (λ (a : DistanceAnswer). distanceAfter a (c .before .before .before .before .before .before .before .before .before .before .args .out .now)) told)
+
+pub beamnettle-distance-spec : {M : Type 1} → statement M
+beamnettle-distance-spec =
+    tie.close
+    (tie.spec
+    returns
+    returns-2
+    coverage-in-requires
+    distance-requires
+    hand-distance-requires
+    same-length
+    returns-3)

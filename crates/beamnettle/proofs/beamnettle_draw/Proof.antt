@@ -1,0 +1,48 @@
+-- `beamnettle::beamnettle_draw` meets its contract: what the drawing promises of its answer, said of the answer's definition. Assumes nothing.
+use borrow.Author.Needs.{needs}
+use mathlib.Core.Path.{_∙_, ap}
+use Rattle.mask.specs.declared.Outcome.{Outcome}
+use Rattle.mask.specs.Calls.{maskAfterDrawing, floatsAfterDrawing, countersAfterDrawing}
+use Rattle.beamnettle.specs.Calls.{drawNumber}
+use Rattle.beamnettle.proofs.beamnettle_draw.Statement.{statement}
+use Rattle.beamnettle.proofs.beamnettle_draw.Tie as tie
+
+rasterize-into-requires : tie.Need-rasterize-into-requires
+rasterize-into-requires c κs = search needs
+
+draw-number-requires : tie.Need-draw-number-requires
+draw-number-requires c κs = search needs
+
+same-length : tie.Need-same-length
+same-length c = search needs
+
+same-length-2 : tie.Need-same-length-2
+same-length-2 c = search needs
+
+same-length-3 : tie.Need-same-length-3
+same-length-3 c = search needs
+
+returns : tie.Need-returns
+returns c =
+    let args = c .before .before .before .before .before .before .before .before .before .before .before .before .before .before .args in
+    let drawn = c .before .before .before .before .before .before .before .rasterize-into .ensures in (
+      c .draw-number .ensures ∙ ap drawNumber (drawn .0),
+      (
+        drawn .1 .0 ∙ ap (λ (o : Outcome). maskAfterDrawing o (record { width = args .width; height = args .height }) (args .words .now) (args .mask .now)) (drawn .0),
+        (
+          drawn .1 .1 .0 ∙ ap (λ (o : Outcome). floatsAfterDrawing o (args .floats .now)) (drawn .0),
+          drawn .1 .1 .1 ∙ ap (λ (o : Outcome). countersAfterDrawing o (args .counters .now)) (drawn .0),
+        ),
+      ),
+    )
+
+pub beamnettle-draw-spec : {M : Type 1} → statement M
+beamnettle-draw-spec =
+    tie.close
+    (tie.spec
+    rasterize-into-requires
+    draw-number-requires
+    same-length
+    same-length-2
+    same-length-3
+    returns)

@@ -1,0 +1,42 @@
+-- `beamnettle::beamnettle_fit` meets its contract. Assumes nothing.
+use borrow.Author.Needs.{needs}
+use mathlib.Core.Path.{_≡_, ap, _∙_}
+use Rattle.fault.specs.declared.Fault.the-variants.{BufferTooShort}
+use Rattle.shape.specs.declared.BoxAnswer.{BoxAnswer}
+use Rattle.shape.specs.declared.BoxAnswer.the-variants.{Refused}
+use Rattle.fit.specs.Fit.{fitCall}
+use Rattle.beamnettle.specs.Calls.{boxNumber, boxAfter, fitLent}
+use Rattle.beamnettle.proofs.Short.{kept, turned}
+use Rattle.beamnettle.proofs.beamnettle_fit.Statement.{statement}
+use Rattle.beamnettle.proofs.beamnettle_fit.Tie as tie
+
+returns : tie.Need-returns
+returns c =
+    let e : Refused BufferTooShort ≡ fitLent (c .before .before .before .before .args .verbs .now) (c .before .before .before .before .args .positions .now) (c .before .before .before .before .args .out .now) = turned _ _ _ _ (c .if1 .taken) in
+    (ap boxNumber e, ap (λ (a : BoxAnswer). boxAfter a (c .before .before .before .before .args .out .now)) e)
+
+fit-requires : tie.Need-fit-requires
+fit-requires c κs = search needs
+
+hand-box-requires : tie.Need-hand-box-requires
+hand-box-requires c κs = search needs
+
+same-length : tie.Need-same-length
+same-length c = search needs
+
+returns-2 : tie.Need-returns-2
+returns-2 c =
+    let told : c .before .before .before .before .fit .result ≡ fitLent (c .before .before .before .before .before .before .before .before .before .args .verbs .now) (c .before .before .before .before .before .before .before .before .before .args .positions .now) (c .before .before .before .before .before .before .before .before .before .args .out .now) =
+    c .before .before .before .before .fit .ensures
+    ∙ kept _ _ _ _ (c .before .before .before .before .before .if1 .left) in
+    (c .before .before .hand-box .ensures .0 ∙ ap boxNumber told, c .before .before .hand-box .ensures .1 ∙ ap (λ (a : BoxAnswer). boxAfter a (c .before .before .before .before .before .before .before .before .before .args .out .now)) told)
+
+pub beamnettle-fit-spec : {M : Type 1} → statement M
+beamnettle-fit-spec =
+    tie.close
+    (tie.spec
+    returns
+    fit-requires
+    hand-box-requires
+    same-length
+    returns-2)

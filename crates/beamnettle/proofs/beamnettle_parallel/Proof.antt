@@ -1,0 +1,57 @@
+-- `beamnettle::beamnettle_parallel` meets its contract. Assumes nothing.
+use borrow.Author.Needs.{needs}
+use mathlib.Core.Path.{_≡_, ap, _∙_}
+use Rattle.fault.specs.declared.Fault.the-variants.{BufferTooShort}
+use Rattle.shape.specs.declared.RoundedBox.{RoundedBox}
+use Rattle.shape.specs.declared.TestAnswer.{TestAnswer}
+use Rattle.shape.specs.declared.TestAnswer.the-variants.{Refused}
+use Rattle.shape.specs.Calls.{parallelCall}
+use Rattle.beamnettle.specs.Lent.{boxIn}
+use Rattle.beamnettle.specs.Calls.{testNumber, parallelLent}
+use Rattle.beamnettle.proofs.Short.{kept, turned}
+use Rattle.beamnettle.proofs.beamnettle_parallel.Statement.{statement}
+use Rattle.beamnettle.proofs.beamnettle_parallel.Tie as tie
+
+returns : tie.Need-returns
+returns c =
+    let e : Refused BufferTooShort ≡ parallelLent (c .before .before .before .args .one .now) (c .before .before .before .args .two .now) = turned _ _ _ _ (c .if1 .taken) in
+    ap testNumber e
+
+returns-2 : tie.Need-returns-2
+returns-2 c =
+    let e : Refused BufferTooShort ≡ parallelLent (c .before .before .before .before .args .one .now) (c .before .before .before .before .args .two .now) = turned _ _ _ _ (c .if2 .taken) ∙ kept _ _ _ _ (c .before .if1 .left) in
+    ap testNumber e
+
+box-in-requires : tie.Need-box-in-requires
+box-in-requires c κs = search needs
+
+box-in-requires-2 : tie.Need-box-in-requires-2
+box-in-requires-2 c κs = search needs
+
+parallel-requires : tie.Need-parallel-requires
+parallel-requires c κs = search needs
+
+test-number-requires : tie.Need-test-number-requires
+test-number-requires c κs = search needs
+
+returns-3 : tie.Need-returns-3
+returns-3 c =
+    let told : c .before .parallel .result ≡ parallelLent (c .before .before .before .before .before .before .before .before .args .one .now) (c .before .before .before .before .before .before .before .before .args .two .now) =
+    c .before .parallel .ensures
+    ∙ ap (λ (v : RoundedBox). parallelCall v (c .before .before .box-in2 .result)) (c .before .before .before .box-in .ensures)
+    ∙ ap (λ (v : RoundedBox). parallelCall (boxIn (c .before .before .before .before .before .before .before .before .args .one .now)) v) (c .before .before .box-in2 .ensures)
+    ∙ kept _ _ _ _ (c .before .before .before .before .if2 .left)
+    ∙ kept _ _ _ _ (c .before .before .before .before .before .if1 .left) in
+    c .test-number .ensures ∙ ap testNumber told
+
+pub beamnettle-parallel-spec : {M : Type 1} → statement M
+beamnettle-parallel-spec =
+    tie.close
+    (tie.spec
+    returns
+    returns-2
+    box-in-requires
+    box-in-requires-2
+    parallel-requires
+    test-number-requires
+    returns-3)

@@ -1,0 +1,68 @@
+-- `beamnettle::beamnettle_rect_intersection` meets its contract. Assumes nothing.
+use borrow.Author.Needs.{needs}
+use mathlib.Core.Path.{_≡_, ap, _∙_}
+use Rattle.fault.specs.declared.Fault.the-variants.{BufferTooShort}
+use Rattle.shape.specs.declared.RoundedBox.{RoundedBox}
+use Rattle.shape.specs.declared.BoxAnswer.{BoxAnswer}
+use Rattle.shape.specs.declared.BoxAnswer.the-variants.{Refused}
+use Rattle.shape.specs.Calls.{rectIntersectionCall}
+use Rattle.beamnettle.specs.Lent.{boxIn}
+use Rattle.beamnettle.specs.Calls.{boxNumber, boxAfter, rectIntersectionLent}
+use Rattle.beamnettle.proofs.Short.{kept, turned}
+use Rattle.beamnettle.proofs.beamnettle_rect_intersection.Statement.{statement}
+use Rattle.beamnettle.proofs.beamnettle_rect_intersection.Tie as tie
+
+returns : tie.Need-returns
+returns c =
+    let e : Refused BufferTooShort ≡ rectIntersectionLent (c .before .before .before .before .args .one .now) (c .before .before .before .before .args .two .now) (c .before .before .before .before .args .out .now) = turned _ _ _ _ (c .if1 .taken) in
+    (ap boxNumber e, ap (λ (a : BoxAnswer). boxAfter a (c .before .before .before .before .args .out .now)) e)
+
+returns-2 : tie.Need-returns-2
+returns-2 c =
+    let e : Refused BufferTooShort ≡ rectIntersectionLent (c .before .before .before .before .before .args .one .now) (c .before .before .before .before .before .args .two .now) (c .before .before .before .before .before .args .out .now) = turned _ _ _ _ (c .if2 .taken) ∙ kept _ _ _ _ (c .before .if1 .left) in
+    (ap boxNumber e, ap (λ (a : BoxAnswer). boxAfter a (c .before .before .before .before .before .args .out .now)) e)
+
+returns-3 : tie.Need-returns-3
+returns-3 c =
+    let e : Refused BufferTooShort ≡ rectIntersectionLent (c .before .before .before .before .before .before .args .one .now) (c .before .before .before .before .before .before .args .two .now) (c .before .before .before .before .before .before .args .out .now) = turned _ _ _ _ (c .if3 .taken) ∙ kept _ _ _ _ (c .before .if2 .left) ∙ kept _ _ _ _ (c .before .before .if1 .left) in
+    (ap boxNumber e, ap (λ (a : BoxAnswer). boxAfter a (c .before .before .before .before .before .before .args .out .now)) e)
+
+box-in-requires : tie.Need-box-in-requires
+box-in-requires c κs = search needs
+
+box-in-requires-2 : tie.Need-box-in-requires-2
+box-in-requires-2 c κs = search needs
+
+rect-intersection-requires : tie.Need-rect-intersection-requires
+rect-intersection-requires c κs = search needs
+
+hand-box-requires : tie.Need-hand-box-requires
+hand-box-requires c κs = search needs
+
+same-length : tie.Need-same-length
+same-length c = search needs
+
+returns-4 : tie.Need-returns-4
+returns-4 c =
+    let told : c .before .before .before .before .rect-intersection .result ≡ rectIntersectionLent (c .before .before .before .before .before .before .before .before .before .before .before .before .before .args .one .now) (c .before .before .before .before .before .before .before .before .before .before .before .before .before .args .two .now) (c .before .before .before .before .before .before .before .before .before .before .before .before .before .args .out .now) =
+    c .before .before .before .before .rect-intersection .ensures
+    ∙ ap (λ (v : RoundedBox). rectIntersectionCall v (c .before .before .before .before .before .box-in2 .result)) (c .before .before .before .before .before .before .box-in .ensures)
+    ∙ ap (λ (v : RoundedBox). rectIntersectionCall (boxIn (c .before .before .before .before .before .before .before .before .before .before .before .before .before .args .one .now)) v) (c .before .before .before .before .before .box-in2 .ensures)
+    ∙ kept _ _ _ _ (c .before .before .before .before .before .before .before .if3 .left)
+    ∙ kept _ _ _ _ (c .before .before .before .before .before .before .before .before .if2 .left)
+    ∙ kept _ _ _ _ (c .before .before .before .before .before .before .before .before .before .if1 .left) in
+    (c .before .before .hand-box .ensures .0 ∙ ap boxNumber told, c .before .before .hand-box .ensures .1 ∙ ap (λ (a : BoxAnswer). boxAfter a (c .before .before .before .before .before .before .before .before .before .before .before .before .before .args .out .now)) told)
+
+pub beamnettle-rect-intersection-spec : {M : Type 1} → statement M
+beamnettle-rect-intersection-spec =
+    tie.close
+    (tie.spec
+    returns
+    returns-2
+    returns-3
+    box-in-requires
+    box-in-requires-2
+    rect-intersection-requires
+    hand-box-requires
+    same-length
+    returns-4)

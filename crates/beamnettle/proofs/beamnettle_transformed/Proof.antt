@@ -1,0 +1,69 @@
+-- `beamnettle::beamnettle_transformed` meets its contract. Assumes nothing.
+use borrow.Author.Needs.{needs}
+use mathlib.Core.Path.{_≡_, ap, _∙_}
+use Rattle.fault.specs.declared.Fault.the-variants.{BufferTooShort}
+use Rattle.shape.specs.declared.RoundedBox.{RoundedBox}
+use Rattle.geometry.specs.declared.Transform2D.{Transform2D}
+use Rattle.shape.specs.declared.BoxAnswer.{BoxAnswer}
+use Rattle.shape.specs.declared.BoxAnswer.the-variants.{Refused}
+use Rattle.shape.specs.Calls.{transformedCall}
+use Rattle.beamnettle.specs.Lent.{boxIn, frameIn}
+use Rattle.beamnettle.specs.Calls.{boxNumber, boxAfter, transformedLent}
+use Rattle.beamnettle.proofs.Short.{kept, turned}
+use Rattle.beamnettle.proofs.beamnettle_transformed.Statement.{statement}
+use Rattle.beamnettle.proofs.beamnettle_transformed.Tie as tie
+
+returns : tie.Need-returns
+returns c =
+    let e : Refused BufferTooShort ≡ transformedLent (c .before .before .before .before .args .b .now) (c .before .before .before .before .args .frame .now) (c .before .before .before .before .args .out .now) = turned _ _ _ _ (c .if1 .taken) in
+    (ap boxNumber e, ap (λ (a : BoxAnswer). boxAfter a (c .before .before .before .before .args .out .now)) e)
+
+returns-2 : tie.Need-returns-2
+returns-2 c =
+    let e : Refused BufferTooShort ≡ transformedLent (c .before .before .before .before .before .args .b .now) (c .before .before .before .before .before .args .frame .now) (c .before .before .before .before .before .args .out .now) = turned _ _ _ _ (c .if2 .taken) ∙ kept _ _ _ _ (c .before .if1 .left) in
+    (ap boxNumber e, ap (λ (a : BoxAnswer). boxAfter a (c .before .before .before .before .before .args .out .now)) e)
+
+returns-3 : tie.Need-returns-3
+returns-3 c =
+    let e : Refused BufferTooShort ≡ transformedLent (c .before .before .before .before .before .before .args .b .now) (c .before .before .before .before .before .before .args .frame .now) (c .before .before .before .before .before .before .args .out .now) = turned _ _ _ _ (c .if3 .taken) ∙ kept _ _ _ _ (c .before .if2 .left) ∙ kept _ _ _ _ (c .before .before .if1 .left) in
+    (ap boxNumber e, ap (λ (a : BoxAnswer). boxAfter a (c .before .before .before .before .before .before .args .out .now)) e)
+
+box-in-requires : tie.Need-box-in-requires
+box-in-requires c κs = search needs
+
+frame-in-requires : tie.Need-frame-in-requires
+frame-in-requires c κs = search needs
+
+transformed-requires : tie.Need-transformed-requires
+transformed-requires c κs = search needs
+
+hand-box-requires : tie.Need-hand-box-requires
+hand-box-requires c κs = search needs
+
+same-length : tie.Need-same-length
+same-length c = search needs
+
+returns-4 : tie.Need-returns-4
+returns-4 c =
+    let told : c .before .before .before .before .transformed .result ≡ transformedLent (c .before .before .before .before .before .before .before .before .before .before .before .before .before .args .b .now) (c .before .before .before .before .before .before .before .before .before .before .before .before .before .args .frame .now) (c .before .before .before .before .before .before .before .before .before .before .before .before .before .args .out .now) =
+    c .before .before .before .before .transformed .ensures
+    ∙ ap (λ (v : RoundedBox). transformedCall v (c .before .before .before .before .before .frame-in .result)) (c .before .before .before .before .before .before .box-in .ensures)
+    ∙ ap (λ (v : Transform2D). transformedCall (boxIn (c .before .before .before .before .before .before .before .before .before .before .before .before .before .args .b .now)) v) (c .before .before .before .before .before .frame-in .ensures)
+    ∙ kept _ _ _ _ (c .before .before .before .before .before .before .before .if3 .left)
+    ∙ kept _ _ _ _ (c .before .before .before .before .before .before .before .before .if2 .left)
+    ∙ kept _ _ _ _ (c .before .before .before .before .before .before .before .before .before .if1 .left) in
+    (c .before .before .hand-box .ensures .0 ∙ ap boxNumber told, c .before .before .hand-box .ensures .1 ∙ ap (λ (a : BoxAnswer). boxAfter a (c .before .before .before .before .before .before .before .before .before .before .before .before .before .args .out .now)) told)
+
+pub beamnettle-transformed-spec : {M : Type 1} → statement M
+beamnettle-transformed-spec =
+    tie.close
+    (tie.spec
+    returns
+    returns-2
+    returns-3
+    box-in-requires
+    frame-in-requires
+    transformed-requires
+    hand-box-requires
+    same-length
+    returns-4)

@@ -1,0 +1,48 @@
+-- `beamnettle::hand_bounds` meets its contract, case by case of the answer. Assumes nothing.
+use borrow.Author.Needs.{needs}
+use mathlib.Core.Path.{refl, sym, ap, _∙_}
+use Rattle.shape.specs.declared.BoundsAnswer.{BoundsAnswer}
+use Rattle.beamnettle.specs.Calls.{boundsNumber, boundsAfter}
+use Rattle.beamnettle.proofs.hand_bounds.Statement.{statement}
+use Rattle.beamnettle.proofs.hand_bounds.Tie as tie
+
+enum-known-answer : tie.Need-enum-known-answer
+enum-known-answer c = search needs
+
+slice-aggregate-put : tie.Need-slice-aggregate-put
+slice-aggregate-put c = search needs
+
+put-requires : tie.Need-put-requires
+put-requires c κs = search needs
+
+enum-known-answer-2 : tie.Need-enum-known-answer-2
+enum-known-answer-2 c = search needs
+
+number-requires : tie.Need-number-requires
+number-requires c κs = search needs
+
+same-length : tie.Need-same-length
+same-length c = search needs
+
+returns : tie.Need-returns
+returns c =
+    let e = sym (c .before .before .before .before .before .before .answer .given .1) in
+    (ap boundsNumber e, c .before .before .put .ensures ∙ ap (λ (a : BoundsAnswer). boundsAfter a (c .before .before .before .before .before .before .before .before .before .args .out .now)) e)
+
+returns-2 : tie.Need-returns-2
+returns-2 c =
+    let e = sym (c .before .before .answer2 .given .1) in
+    (c .number .ensures ∙ ap boundsNumber e, ap (λ (a : BoundsAnswer). boundsAfter a (c .before .before .before .before .before .args .out .now)) e)
+
+pub hand-bounds-spec : {M : Type 1} → statement M
+hand-bounds-spec =
+    tie.close
+    (tie.spec
+    enum-known-answer
+    slice-aggregate-put
+    put-requires
+    enum-known-answer-2
+    number-requires
+    same-length
+    returns
+    returns-2)

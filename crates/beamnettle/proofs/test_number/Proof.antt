@@ -1,0 +1,37 @@
+-- `beamnettle::test_number` meets its contract, case by case of the answer. Assumes nothing.
+use borrow.Author.Needs.{needs}
+use mathlib.Core.Path.{refl, sym, ap, _∙_}
+use mathlib.Core.Bool.{Bool, cond}
+use Rattle.shape.specs.declared.TestAnswer.{TestAnswer}
+use Rattle.beamnettle.specs.Calls.{testNumber}
+use Rattle.beamnettle.proofs.test_number.Statement.{statement}
+use Rattle.beamnettle.proofs.test_number.Tie as tie
+
+enum-known-answer : tie.Need-enum-known-answer
+enum-known-answer c = search needs
+
+returns : tie.Need-returns
+returns c = sym (ap (λ (t : Bool). cond t 14 15) (c .if1 .taken)) ∙ ap testNumber (sym (c .before .before .answer .given .1))
+
+enum-known-answer-2 : tie.Need-enum-known-answer-2
+enum-known-answer-2 c = search needs
+
+number-requires : tie.Need-number-requires
+number-requires c κs = search needs
+
+returns-2 : tie.Need-returns-2
+returns-2 c = sym (ap (λ (t : Bool). cond t 14 15) (c .if1 .left)) ∙ ap testNumber (sym (c .before .before .answer .given .1))
+
+returns-3 : tie.Need-returns-3
+returns-3 c = c .number .ensures ∙ ap testNumber (sym (c .before .before .answer2 .given .1))
+
+pub test-number-spec : {M : Type 1} → statement M
+test-number-spec =
+    tie.close
+    (tie.spec
+    enum-known-answer
+    returns
+    enum-known-answer-2
+    number-requires
+    returns-2
+    returns-3)

@@ -1,0 +1,119 @@
+-- The exported calls, outright: document 01's answers as numbers, and what is lent afterwards. Definitions only.
+use Prim.Native.Nat.{ℕ}
+use mathlib.Core.Bool.{Bool, cond}
+use mathlib.Core.List.{List, [], _∷_}
+use lib.Dec.{ltb}
+use lib.Ieee.{Float}
+use lib.ListN.{length}
+use Rattle.fault.specs.declared.Fault.the-variants.{BufferTooShort}
+use Rattle.fault.specs.Number.{numberOf}
+use Rattle.mask.specs.declared.Outcome.{Outcome}
+use Rattle.mask.specs.declared.Outcome.the-variants as drawn
+use Rattle.shape.specs.declared.BoxAnswer.{BoxAnswer}
+use Rattle.shape.specs.declared.BoxAnswer.the-variants as box
+use Rattle.shape.specs.declared.CoverageAnswer.{CoverageAnswer}
+use Rattle.shape.specs.declared.CoverageAnswer.the-variants as covered
+use Rattle.shape.specs.declared.BoundsAnswer.{BoundsAnswer}
+use Rattle.shape.specs.declared.BoundsAnswer.the-variants as bounds
+use Rattle.shape.specs.declared.DistanceAnswer.{DistanceAnswer}
+use Rattle.shape.specs.declared.DistanceAnswer.the-variants as distance
+use Rattle.shape.specs.declared.TestAnswer.{TestAnswer}
+use Rattle.shape.specs.declared.TestAnswer.the-variants as test
+use Rattle.shape.specs.Calls.{transformedCall, coverageCall, boundsCall, parallelCall, rectIntersectionCall, intersectionCall, distanceCall, containsCall}
+use Rattle.fit.specs.Fit.{fitCall}
+use Rattle.beamnettle.specs.Lent.{frameIn, boxIn, coverageIn, boxFloats, coverageFloats, boundsFloats, over}
+
+-- ---- an answer's number: 'A call is done, or turned away by number.' Done is 0; "no box", an ordinary outcome of a done call, is 13; yes is 14 and no 15
+
+abbrev pub drawNumber : Outcome → ℕ
+drawNumber drawn.Done = 0
+drawNumber (drawn.Refused f) = numberOf f
+
+abbrev pub boxNumber : BoxAnswer → ℕ
+boxNumber (box.Box b) = 0
+boxNumber box.NoBox = 13
+boxNumber (box.Refused f) = numberOf f
+
+abbrev pub coverageNumber : CoverageAnswer → ℕ
+coverageNumber (covered.Coverage k) = 0
+coverageNumber covered.NoCoverage = 13
+coverageNumber (covered.Refused f) = numberOf f
+
+abbrev pub boundsNumber : BoundsAnswer → ℕ
+boundsNumber (bounds.Bounds b) = 0
+boundsNumber (bounds.Refused f) = numberOf f
+
+abbrev pub distanceNumber : DistanceAnswer → ℕ
+distanceNumber (distance.Distance x) = 0
+distanceNumber (distance.Refused f) = numberOf f
+
+abbrev pub testNumber : TestAnswer → ℕ
+testNumber (test.Done found) = cond found 14 15
+testNumber (test.Refused f) = numberOf f
+
+-- ---- what is lent for an answer, afterwards: 'Left as it was: all lent' where the call is turned away
+
+abbrev pub boxAfter : BoxAnswer → List Float → List Float
+boxAfter (box.Box b) lent = over (boxFloats b) lent
+boxAfter box.NoBox lent = lent
+boxAfter (box.Refused f) lent = lent
+
+abbrev pub coverageAfter : CoverageAnswer → List Float → List Float
+coverageAfter (covered.Coverage k) lent = over (coverageFloats k) lent
+coverageAfter covered.NoCoverage lent = lent
+coverageAfter (covered.Refused f) lent = lent
+
+abbrev pub boundsAfter : BoundsAnswer → List Float → List Float
+boundsAfter (bounds.Bounds b) lent = over (boundsFloats b) lent
+boundsAfter (bounds.Refused f) lent = lent
+
+abbrev pub distanceAfter : DistanceAnswer → List Float → List Float
+distanceAfter (distance.Distance x) lent = over (x ∷ []) lent
+distanceAfter (distance.Refused f) lent = lent
+
+-- ---- the calls on lent floats. Where fewer are lent than a box, a frame, a coverage or an answer takes, number 4, before all else
+
+abbrev pub fitLent : List ℕ → List Float → List Float → BoxAnswer
+fitLent verbs positions out = cond (ltb (length out) 10) (box.Refused BufferTooShort) (fitCall verbs positions)
+
+abbrev pub transformedLent : List Float → List Float → List Float → BoxAnswer
+transformedLent b frame out =
+    cond (ltb (length b) 10) (box.Refused BufferTooShort)
+    (cond (ltb (length frame) 6) (box.Refused BufferTooShort)
+    (cond (ltb (length out) 10) (box.Refused BufferTooShort) (transformedCall (boxIn b) (frameIn frame))))
+
+abbrev pub intersectionLent : List Float → List Float → Float → List Float → BoxAnswer
+intersectionLent one two fringe out =
+    cond (ltb (length one) 10) (box.Refused BufferTooShort)
+    (cond (ltb (length two) 10) (box.Refused BufferTooShort)
+    (cond (ltb (length out) 10) (box.Refused BufferTooShort) (intersectionCall (boxIn one) (boxIn two) fringe)))
+
+abbrev pub rectIntersectionLent : List Float → List Float → List Float → BoxAnswer
+rectIntersectionLent one two out =
+    cond (ltb (length one) 10) (box.Refused BufferTooShort)
+    (cond (ltb (length two) 10) (box.Refused BufferTooShort)
+    (cond (ltb (length out) 10) (box.Refused BufferTooShort) (rectIntersectionCall (boxIn one) (boxIn two))))
+
+abbrev pub coverageLent : List Float → Float → List Float → CoverageAnswer
+coverageLent b fringe out =
+    cond (ltb (length b) 10) (covered.Refused BufferTooShort)
+    (cond (ltb (length out) 11) (covered.Refused BufferTooShort) (coverageCall (boxIn b) fringe))
+
+abbrev pub boundsLent : List Float → List Float → BoundsAnswer
+boundsLent b out =
+    cond (ltb (length b) 10) (bounds.Refused BufferTooShort) (cond (ltb (length out) 4) (bounds.Refused BufferTooShort) (boundsCall (boxIn b)))
+
+abbrev pub distanceLent : List Float → Float → Float → List Float → DistanceAnswer
+distanceLent k x y out =
+    cond (ltb (length k) 11) (distance.Refused BufferTooShort)
+    (cond (ltb (length out) 1) (distance.Refused BufferTooShort) (distanceCall (coverageIn k) (record { x = x; y = y })))
+
+abbrev pub parallelLent : List Float → List Float → TestAnswer
+parallelLent one two =
+    cond (ltb (length one) 10) (test.Refused BufferTooShort)
+    (cond (ltb (length two) 10) (test.Refused BufferTooShort) (parallelCall (boxIn one) (boxIn two)))
+
+abbrev pub containsLent : List Float → List Float → TestAnswer
+containsLent k b =
+    cond (ltb (length k) 11) (test.Refused BufferTooShort)
+    (cond (ltb (length b) 10) (test.Refused BufferTooShort) (containsCall (coverageIn k) (boxIn b)))

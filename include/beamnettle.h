@@ -1,0 +1,100 @@
+/* Beamnettle: the kiosk's clip masks and boxes. Link with libbeamnettle.a.
+ *
+ * Every function is proved to return the number and to leave in lent memory exactly what its contract
+ * in crates/beamnettle/src/lib.rt says, whatever the numbers are. A lent pointer must be valid for its
+ * length, aligned, and not null, even where the length is 0; what is written must not overlap anything
+ * else that is lent. Lengths count elements, not bytes. Nothing is kept after a call returns.
+ *
+ * Where fewer floats are lent than a box, frame, coverage or answer takes, the number is 4, before any
+ * other cause. More may be lent: what lies past them is neither read nor changed. On every number but 0
+ * all lent memory is left as it was.
+ */
+#ifndef BEAMNETTLE_H
+#define BEAMNETTLE_H
+
+#include <stddef.h>
+#include <stdint.h>
+
+#ifdef __cplusplus
+extern "C" {
+#endif
+
+/* What a function returns. */
+enum {
+    BEAMNETTLE_DONE = 0,
+    /* refused: */
+    BEAMNETTLE_NUMBER_OUT_OF_RANGE = 1,     /* a number is not finite, or its size is over 2^20 */
+    BEAMNETTLE_IMPROPER_BOX = 2,            /* a half extent or radius below 0, or a radius over its half extent */
+    BEAMNETTLE_MASK_TOO_LARGE = 3,          /* a mask width or height over 4,096 */
+    BEAMNETTLE_BUFFER_TOO_SHORT = 4,        /* mask, scratch or lent floats too short */
+    BEAMNETTLE_LIST_ENDS_EARLY = 5,         /* a word list ends inside a group */
+    BEAMNETTLE_COUNT_OUT_OF_RANGE = 6,      /* a count word below 0, or points passing 2,048 in the list */
+    BEAMNETTLE_COORDINATE_OUT_OF_RANGE = 7, /* a coordinate word beyond +-1,048,576 */
+    BEAMNETTLE_UNKNOWN_VERB = 8,            /* a verb byte above 5 */
+    BEAMNETTLE_POSITIONS_MISMATCH = 9,      /* verbs need more positions than given, or fewer */
+    BEAMNETTLE_CURVE_VERB = 10,             /* a curve verb given to the fitter */
+    BEAMNETTLE_TOO_MANY_VERBS = 11,         /* over 256 verbs */
+    BEAMNETTLE_TOO_MANY_BOXES = 12,         /* over 256 boxes in a touch list */
+    /* done, and: */
+    BEAMNETTLE_NONE = 13, /* there is no box, or no coverage */
+    BEAMNETTLE_YES = 14,
+    BEAMNETTLE_NO = 15
+};
+
+/* How many floats there are in a box (frame a b c d x y, half extents, radii), a frame, a coverage
+ * (linear part by rows, offset, half extents, radii, strays) and bounds (least x, least y, most x, most y). */
+enum { BEAMNETTLE_BOX = 10, BEAMNETTLE_FRAME = 6, BEAMNETTLE_COVERAGE = 11, BEAMNETTLE_BOUNDS = 4 };
+
+/* Draws a word list into the first width * height bytes of a mask, rows first; later bytes are not
+ * changed. A group is a rule word (0 non-zero, else even-odd), a count of contours, then per contour a
+ * count of points and that many pairs of coordinates in 256ths of a cell. Scratch is at least
+ * width + 15 * points floats and (width + 63) / 64 + height + 1 counters; it may hold anything before
+ * and is all zero after a done drawing.
+ * Returns 0, or 3, then 4 for the mask, then 5, 6 or 7 at the first word at fault, then 4 for scratch. */
+uint8_t beamnettle_draw(uint8_t *mask, size_t mask_length, size_t width, size_t height, const int32_t *words,
+                        size_t words_length, float *floats, size_t floats_length, uint64_t *counters,
+                        size_t counters_length);
+
+/* The box that a straight outline draws. Verbs: 0 move to, 1 line to, 3 solid, 4 hole, 5 close; the
+ * first two take a position of two floats each. Writes a box to out.
+ * Returns 0 or 13, or 11, then 8 or 10 at the first verb at fault, 9, 1. */
+uint8_t beamnettle_fit(const uint8_t *verbs, size_t verbs_length, const float *positions, size_t positions_length,
+                       float *out, size_t out_length);
+
+/* The box through a frame after its own. Writes a box to out. Returns 0, or 1 or 2 for the box, then 1. */
+uint8_t beamnettle_transformed(const float *box, size_t box_length, const float *frame, size_t frame_length,
+                               float *out, size_t out_length);
+
+/* What two boxes with parallel sides share, where that is a box. Writes a box to out.
+ * Returns 0 or 13, or 1 or 2 for the first box, for the second, then 1 for the fringe. */
+uint8_t beamnettle_intersection(const float *one, size_t one_length, const float *two, size_t two_length,
+                                float fringe, float *out, size_t out_length);
+
+/* What two rectangles with parallel sides share; where they are apart, a box of no width or height
+ * between them. Writes a box to out. Returns 0 or 13, or 1 or 2 for the first box, then for the second. */
+uint8_t beamnettle_rect_intersection(const float *one, size_t one_length, const float *two, size_t two_length,
+                                     float *out, size_t out_length);
+
+/* The box as a draw takes it, if it is not too thin. Writes a coverage to out.
+ * Returns 0 or 13, or 1 or 2 for the box, then 1 for the fringe. */
+uint8_t beamnettle_coverage(const float *box, size_t box_length, float fringe, float *out, size_t out_length);
+
+/* The bounds of a box. Writes four floats to out. Returns 0, or 1 or 2. */
+uint8_t beamnettle_bounds(const float *box, size_t box_length, float *out, size_t out_length);
+
+/* The distance of a point from a coverage's outline, below 0 inside. The coverage may hold any floats.
+ * Writes one float to out. Returns 0, or 1 for the point. */
+uint8_t beamnettle_distance(const float *coverage, size_t coverage_length, float x, float y, float *out,
+                            size_t out_length);
+
+/* Whether the sides of two boxes are parallel. Returns 14 or 15, or 1 or 2 for the first box, then for the second. */
+uint8_t beamnettle_parallel(const float *one, size_t one_length, const float *two, size_t two_length);
+
+/* Whether a coverage, of any floats, holds all of a box. Returns 14 or 15, or 1 or 2. */
+uint8_t beamnettle_contains(const float *coverage, size_t coverage_length, const float *box, size_t box_length);
+
+#ifdef __cplusplus
+}
+#endif
+
+#endif
