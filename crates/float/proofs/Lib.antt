@@ -1,5 +1,5 @@
 -- Tests, Simple: comparisons; abs, max, min, signum. Pattern, Fields: bit patterns. Shift, Narrowing: f64 to f32. Roots, RootLoop, Rooting: square roots.
--- Whole, Cast: floor, ceiling, casts. Controls: closed cases.
+-- Whole, Cast, Part: floor, ceiling, casts. Controls: closed cases.
 --
 -- What the definitions of specs/ mean, in exact numbers:
 --
@@ -19,6 +19,7 @@ pub mod RootLoop
 pub mod Rooting
 pub mod Whole
 pub mod Cast
+pub mod Part
 pub mod IntegralBelief
 pub mod RootBelief
 pub mod NarrowBelief

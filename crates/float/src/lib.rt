@@ -5,10 +5,11 @@ ghost use mathlib.Core.Logic.{_⊎_};
 ghost use Prim.Native.Nat.{_+_, _-_, _*_, _/_, _%_, _^_, _≤_, _<_, min as smallerOf};
 ghost use lib.Dec.{T};
 ghost use mathlib.Core.Bool.{true, false};
-ghost use lib.Ieee.{inf, binary32, binary64, units, round};
+ghost use lib.Ieee.{inf, binary32, binary64, units, round, le, toUnsigned};
 ghost use lib.Ieee.Nearest.{closest};
 ghost use lib.Ieee.Positive.{positive};
 ghost use lib.Ieee.Scale.{finite};
+ghost use Rattle.float.specs.Ops.{f1};
 ghost use Rattle.float.specs.Simple.{absOf, minOf, maxOf, signumOf};
 ghost use Rattle.float.specs.Width.{narrowOf};
 ghost use Rattle.float.specs.Whole.{stepAway, wholeDiv, integralOf, floorOf, ceilOf, columnOf, byteOf, ofWhole};
@@ -407,6 +408,15 @@ pub fn from_whole(n: usize) -> f32
     n as f32
 }
 
+// A number from 1 to below 2 ^ 23 without its fraction: its digits above the point.
+fn whole_part(x: f32) -> u64
+    requires { ⌜ (le f1 x ≡ true) × (toUnsigned 64 x < 2 ^ 23) ⌝ }
+    ensures { λ r. ⌜ r ≡ toUnsigned 64 x ⌝ }
+{
+    let p = unpack32(x);
+    p.digits >> (149 - p.exponent)
+}
+
 // x without its fraction as a column, held between 0 and 8,191; a NaN gives 0.
 pub fn to_column(x: f32) -> usize
     ensures { λ r. ⌜ r ≡ columnOf x ⌝ }
@@ -414,8 +424,8 @@ pub fn to_column(x: f32) -> usize
     if x >= 8192.0 {
         return 8191;
     }
-    if x > -1.0 {
-        return std::num::truncating_f32_to_u64(x) as usize;
+    if x >= 1.0 {
+        return whole_part(x) as usize;
     }
     0
 }
