@@ -1,4 +1,4 @@
-/* Beamnettle: the kiosk's clip masks and boxes. Link with libbeamnettle.a.
+/* Beamnettle: the kiosk's clip masks and boxes. Link with libbeamnettle.a and -lm.
  *
  * Every function is proved to return the number and to leave in lent memory exactly what its contract
  * in crates/beamnettle/src/lib.rt says, whatever the numbers are. A lent pointer must be valid for its

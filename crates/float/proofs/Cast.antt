@@ -1,15 +1,15 @@
--- A float cut to an unsigned number of w bits, by its tests against 2 ^ w and -1. For any width. Assumes nothing.
-use mathlib.Core.Path.{_≡_, refl, sym, _∙_, subst}
+-- A float cut to an unsigned number of w bits, by its test against 2 ^ w. For any width. Assumes nothing.
+use mathlib.Core.Path.{_≡_, refl, sym, _∙_}
 use mathlib.Core.Bool.{Bool, true, false, _||_, _&&_, true≢false, false≢true}
-use Prim.Native.Nat.{ℕ, _+_, _*_, _-_, _/_, _^_, _<_, _≤_, min}
+use Prim.Native.Nat.{ℕ, _*_, _-_, _/_, _^_, _<_, _≤_, min}
 use native.Mathlib.Nat.{le-of-lt, le-trans, le-div-iff-mul-le, div-lt-iff-lt-mul, min-eq-left, min-eq-right, zero-min, mul-one, one-mul, mul-pos, lt-of-lt-of-le}
 use native.Mathlib.Omega.{arith}
 use lib.IntN.{ℤ, pos}
-use lib.Dec.{T, ltb, eqb}
+use lib.Dec.{ltb, eqb}
 use lib.Pow.{pow-pos, pow-mono, ones-lt, le-ones}
 use lib.Ieee.{Float, nan, inf, fin, lt, le, eq, up, down, toUnsigned}
 use lib.Ieee.Fits.{down-pos}
-use borrow.Author.Tests.{ltb-true, ltb-false, eqb-true, eqb-false, lt-ltb}
+use borrow.Author.Tests.{ltb-true, ltb-false, eqb-true, eqb-false}
 
 reached : (t u : Bool) (a b : ℕ) → ltb a b ≡ t → eqb a b ≡ u → (t || (u && true)) ≡ true → a ≤ b
 reached true u a b p q h = le-of-lt (ltb-true a b p)
@@ -49,14 +49,6 @@ module _ (w : ℕ) where
       absurd (omega arith)
   cut-top (fin false m e) h = sym (min-eq-right (le-trans (le-of-lt (ones-lt w)) (tall m e h)))
 
-  pub cut-low : (x : Float) → lt (fin true 1 (pos 0)) x ≡ false → 0 ≡ toUnsigned w x
-  unfolding lt toUnsigned
-  cut-low nan h = refl
-  cut-low (inf true) h = refl
-  cut-low (inf false) h = absurd (true≢false h)
-  cut-low (fin true m e) h = refl
-  cut-low (fin false m e) h = let z = ltb-false 0 (1 * up (pos 0) * down e + m * up e * down (pos 0)) h in let d = down-pos e in absurd (omega arith)
-
   pub cut-mid : (x : Float) → w ≤ 64 → le top x ≡ false → lt (fin true 1 (pos 0)) x ≡ true → toUnsigned 64 x ≡ toUnsigned w x
   unfolding le lt eq toUnsigned
   cut-mid nan n h g = refl
@@ -66,16 +58,6 @@ module _ (w : ℕ) where
   cut-mid (fin false m e) n h g =
       let q = low m e h in
       min-eq-left (le-ones 64 (lt-of-lt-of-le q (pow-mono n))) ∙ sym (min-eq-left (le-ones w q))
-
-  pub cut-fits : (x : Float) → w ≤ 64 → le top x ≡ false → lt (fin true 1 (pos 0)) x ≡ true → T (lt x (fin false 1 (pos 64)))
-  unfolding le lt eq
-  cut-fits nan n h g = absurd (false≢true g)
-  cut-fits (inf true) n h g = absurd (false≢true g)
-  cut-fits (inf false) n h g = absurd (true≢false h)
-  cut-fits (fin true m e) n h g = let d = down-pos e in subst T (sym (lt-ltb 0 (m * up e * 1 + 18446744073709551616 * down e) (omega arith))) tt
-  cut-fits (fin false m e) n h g =
-      let q = div-lt-iff-lt-mul (down-pos e) .0 (lt-of-lt-of-le (low m e h) (pow-mono n)) in
-      subst T (sym (lt-ltb (m * up e * 1) (18446744073709551616 * down e) (simp mul-one q))) tt
 
 -- a number of fewer bits is one of more, held down
 pub cut-narrower : (v w : ℕ) (x : Float) → v ≤ w → min (toUnsigned w x) (2 ^ v - 1) ≡ toUnsigned v x

@@ -14,13 +14,15 @@ use Rattle.beamnettle.proofs.beamnettle_bounds.Tie as tie
 
 returns : tie.Need-returns
 returns c =
-    let e : Refused BufferTooShort ≡ boundsLent (c .before .before .before .args .b .now) (c .before .before .before .args .out .now) = turned _ _ _ _ (c .if1 .taken) in
-    (ap boundsNumber e, ap (λ (a : BoundsAnswer). boundsAfter a (c .before .before .before .args .out .now)) e)
+    let args = c .before .before .before .args in
+    let e : Refused BufferTooShort ≡ boundsLent (args .b .now) (args .out .now) = turned _ _ _ _ (c .if1 .taken) in
+    (ap boundsNumber e, ap (λ (a : BoundsAnswer). boundsAfter a (args .out .now)) e)
 
 returns-2 : tie.Need-returns-2
 returns-2 c =
-    let e : Refused BufferTooShort ≡ boundsLent (c .before .before .before .before .args .b .now) (c .before .before .before .before .args .out .now) = turned _ _ _ _ (c .if2 .taken) ∙ kept _ _ _ _ (c .before .if1 .left) in
-    (ap boundsNumber e, ap (λ (a : BoundsAnswer). boundsAfter a (c .before .before .before .before .args .out .now)) e)
+    let args = c .before .before .before .before .args in
+    let e : Refused BufferTooShort ≡ boundsLent (args .b .now) (args .out .now) = turned _ _ _ _ (c .if2 .taken) ∙ kept _ _ _ _ (c .before .if1 .left) in
+    (ap boundsNumber e, ap (λ (a : BoundsAnswer). boundsAfter a (args .out .now)) e)
 
 box-in-requires : tie.Need-box-in-requires
 box-in-requires c κs = search needs
@@ -36,12 +38,16 @@ same-length c = search needs
 
 returns-3 : tie.Need-returns-3
 returns-3 c =
-    let told : c .before .before .before .before .bounds .result ≡ boundsLent (c .before .before .before .before .before .before .before .before .before .before .args .b .now) (c .before .before .before .before .before .before .before .before .before .before .args .out .now) =
-    c .before .before .before .before .bounds .ensures
-    ∙ ap (λ (v : RoundedBox). boundsCall v) (c .before .before .before .before .before .box-in .ensures)
+    let args = c .before .before .before .before .before .before .before .before .before .before .args in
+    let at-bounds = c .before .before .before .before .bounds in
+    let at-box-in = c .before .before .before .before .before .box-in in
+    let at-hand-bounds = c .before .before .hand-bounds in
+    let told : at-bounds .result ≡ boundsLent (args .b .now) (args .out .now) =
+    at-bounds .ensures
+    ∙ ap (λ (v : RoundedBox). boundsCall v) (at-box-in .ensures)
     ∙ kept _ _ _ _ (c .before .before .before .before .before .before .if2 .left)
     ∙ kept _ _ _ _ (c .before .before .before .before .before .before .before .if1 .left) in
-    (c .before .before .hand-bounds .ensures .0 ∙ ap boundsNumber told, c .before .before .hand-bounds .ensures .1 ∙ ap (λ (a : BoundsAnswer). boundsAfter a (c .before .before .before .before .before .before .before .before .before .before .args .out .now)) told)
+    (at-hand-bounds .ensures .0 ∙ ap boundsNumber told, at-hand-bounds .ensures .1 ∙ ap (λ (a : BoundsAnswer). boundsAfter a (args .out .now)) told)
 
 pub beamnettle-bounds-spec : {M : Type 1} → statement M
 beamnettle-bounds-spec =

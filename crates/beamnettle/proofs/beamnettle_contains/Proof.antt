@@ -15,12 +15,14 @@ use Rattle.beamnettle.proofs.beamnettle_contains.Tie as tie
 
 returns : tie.Need-returns
 returns c =
-    let e : Refused BufferTooShort ≡ containsLent (c .before .before .before .args .k .now) (c .before .before .before .args .b .now) = turned _ _ _ _ (c .if1 .taken) in
+    let args = c .before .before .before .args in
+    let e : Refused BufferTooShort ≡ containsLent (args .k .now) (args .b .now) = turned _ _ _ _ (c .if1 .taken) in
     ap testNumber e
 
 returns-2 : tie.Need-returns-2
 returns-2 c =
-    let e : Refused BufferTooShort ≡ containsLent (c .before .before .before .before .args .k .now) (c .before .before .before .before .args .b .now) = turned _ _ _ _ (c .if2 .taken) ∙ kept _ _ _ _ (c .before .if1 .left) in
+    let args = c .before .before .before .before .args in
+    let e : Refused BufferTooShort ≡ containsLent (args .k .now) (args .b .now) = turned _ _ _ _ (c .if2 .taken) ∙ kept _ _ _ _ (c .before .if1 .left) in
     ap testNumber e
 
 coverage-in-requires : tie.Need-coverage-in-requires
@@ -37,13 +39,18 @@ test-number-requires c κs = search needs
 
 returns-3 : tie.Need-returns-3
 returns-3 c =
-    let told : c .before .contains .result ≡ containsLent (c .before .before .before .before .before .before .before .before .args .k .now) (c .before .before .before .before .before .before .before .before .args .b .now) =
-    c .before .contains .ensures
-    ∙ ap (λ (v : ClipCoverage). containsCall v (c .before .before .box-in .result)) (c .before .before .before .coverage-in .ensures)
-    ∙ ap (λ (v : RoundedBox). containsCall (coverageIn (c .before .before .before .before .before .before .before .before .args .k .now)) v) (c .before .before .box-in .ensures)
+    let args = c .before .before .before .before .before .before .before .before .args in
+    let at-contains = c .before .contains in
+    let at-coverage-in = c .before .before .before .coverage-in in
+    let at-box-in = c .before .before .box-in in
+    let at-test-number = c .test-number in
+    let told : at-contains .result ≡ containsLent (args .k .now) (args .b .now) =
+    at-contains .ensures
+    ∙ ap (λ (v : ClipCoverage). containsCall v (at-box-in .result)) (at-coverage-in .ensures)
+    ∙ ap (λ (v : RoundedBox). containsCall (coverageIn (args .k .now)) v) (at-box-in .ensures)
     ∙ kept _ _ _ _ (c .before .before .before .before .if2 .left)
     ∙ kept _ _ _ _ (c .before .before .before .before .before .if1 .left) in
-    c .test-number .ensures ∙ ap testNumber told
+    at-test-number .ensures ∙ ap testNumber told
 
 pub beamnettle-contains-spec : {M : Type 1} → statement M
 beamnettle-contains-spec =

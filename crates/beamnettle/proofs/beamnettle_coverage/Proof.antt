@@ -14,13 +14,15 @@ use Rattle.beamnettle.proofs.beamnettle_coverage.Tie as tie
 
 returns : tie.Need-returns
 returns c =
-    let e : Refused BufferTooShort ≡ coverageLent (c .before .before .before .args .b .now) (c .before .before .before .args .fringe) (c .before .before .before .args .out .now) = turned _ _ _ _ (c .if1 .taken) in
-    (ap coverageNumber e, ap (λ (a : CoverageAnswer). coverageAfter a (c .before .before .before .args .out .now)) e)
+    let args = c .before .before .before .args in
+    let e : Refused BufferTooShort ≡ coverageLent (args .b .now) (args .fringe) (args .out .now) = turned _ _ _ _ (c .if1 .taken) in
+    (ap coverageNumber e, ap (λ (a : CoverageAnswer). coverageAfter a (args .out .now)) e)
 
 returns-2 : tie.Need-returns-2
 returns-2 c =
-    let e : Refused BufferTooShort ≡ coverageLent (c .before .before .before .before .args .b .now) (c .before .before .before .before .args .fringe) (c .before .before .before .before .args .out .now) = turned _ _ _ _ (c .if2 .taken) ∙ kept _ _ _ _ (c .before .if1 .left) in
-    (ap coverageNumber e, ap (λ (a : CoverageAnswer). coverageAfter a (c .before .before .before .before .args .out .now)) e)
+    let args = c .before .before .before .before .args in
+    let e : Refused BufferTooShort ≡ coverageLent (args .b .now) (args .fringe) (args .out .now) = turned _ _ _ _ (c .if2 .taken) ∙ kept _ _ _ _ (c .before .if1 .left) in
+    (ap coverageNumber e, ap (λ (a : CoverageAnswer). coverageAfter a (args .out .now)) e)
 
 box-in-requires : tie.Need-box-in-requires
 box-in-requires c κs = search needs
@@ -36,12 +38,16 @@ same-length c = search needs
 
 returns-3 : tie.Need-returns-3
 returns-3 c =
-    let told : c .before .before .before .before .coverage .result ≡ coverageLent (c .before .before .before .before .before .before .before .before .before .before .args .b .now) (c .before .before .before .before .before .before .before .before .before .before .args .fringe) (c .before .before .before .before .before .before .before .before .before .before .args .out .now) =
-    c .before .before .before .before .coverage .ensures
-    ∙ ap (λ (v : RoundedBox). coverageCall v (c .before .before .before .before .before .before .before .before .before .before .args .fringe)) (c .before .before .before .before .before .box-in .ensures)
+    let args = c .before .before .before .before .before .before .before .before .before .before .args in
+    let at-coverage = c .before .before .before .before .coverage in
+    let at-box-in = c .before .before .before .before .before .box-in in
+    let at-hand-coverage = c .before .before .hand-coverage in
+    let told : at-coverage .result ≡ coverageLent (args .b .now) (args .fringe) (args .out .now) =
+    at-coverage .ensures
+    ∙ ap (λ (v : RoundedBox). coverageCall v (args .fringe)) (at-box-in .ensures)
     ∙ kept _ _ _ _ (c .before .before .before .before .before .before .if2 .left)
     ∙ kept _ _ _ _ (c .before .before .before .before .before .before .before .if1 .left) in
-    (c .before .before .hand-coverage .ensures .0 ∙ ap coverageNumber told, c .before .before .hand-coverage .ensures .1 ∙ ap (λ (a : CoverageAnswer). coverageAfter a (c .before .before .before .before .before .before .before .before .before .before .args .out .now)) told)
+    (at-hand-coverage .ensures .0 ∙ ap coverageNumber told, at-hand-coverage .ensures .1 ∙ ap (λ (a : CoverageAnswer). coverageAfter a (args .out .now)) told)
 
 pub beamnettle-coverage-spec : {M : Type 1} → statement M
 beamnettle-coverage-spec =

@@ -14,13 +14,15 @@ use Rattle.beamnettle.proofs.beamnettle_distance.Tie as tie
 
 returns : tie.Need-returns
 returns c =
-    let e : Refused BufferTooShort ≡ distanceLent (c .before .before .before .args .k .now) (c .before .before .before .args .x) (c .before .before .before .args .y) (c .before .before .before .args .out .now) = turned _ _ _ _ (c .if1 .taken) in
-    (ap distanceNumber e, ap (λ (a : DistanceAnswer). distanceAfter a (c .before .before .before .args .out .now)) e)
+    let args = c .before .before .before .args in
+    let e : Refused BufferTooShort ≡ distanceLent (args .k .now) (args .x) (args .y) (args .out .now) = turned _ _ _ _ (c .if1 .taken) in
+    (ap distanceNumber e, ap (λ (a : DistanceAnswer). distanceAfter a (args .out .now)) e)
 
 returns-2 : tie.Need-returns-2
 returns-2 c =
-    let e : Refused BufferTooShort ≡ distanceLent (c .before .before .before .before .args .k .now) (c .before .before .before .before .args .x) (c .before .before .before .before .args .y) (c .before .before .before .before .args .out .now) = turned _ _ _ _ (c .if2 .taken) ∙ kept _ _ _ _ (c .before .if1 .left) in
-    (ap distanceNumber e, ap (λ (a : DistanceAnswer). distanceAfter a (c .before .before .before .before .args .out .now)) e)
+    let args = c .before .before .before .before .args in
+    let e : Refused BufferTooShort ≡ distanceLent (args .k .now) (args .x) (args .y) (args .out .now) = turned _ _ _ _ (c .if2 .taken) ∙ kept _ _ _ _ (c .before .if1 .left) in
+    (ap distanceNumber e, ap (λ (a : DistanceAnswer). distanceAfter a (args .out .now)) e)
 
 coverage-in-requires : tie.Need-coverage-in-requires
 coverage-in-requires c κs = search needs
@@ -36,12 +38,16 @@ same-length c = search needs
 
 returns-3 : tie.Need-returns-3
 returns-3 c =
-    let told : c .before .before .before .before .distance .result ≡ distanceLent (c .before .before .before .before .before .before .before .before .before .before .args .k .now) (c .before .before .before .before .before .before .before .before .before .before .args .x) (c .before .before .before .before .before .before .before .before .before .before .args .y) (c .before .before .before .before .before .before .before .before .before .before .args .out .now) =
-    c .before .before .before .before .distance .ensures
-    ∙ ap (λ (v : ClipCoverage). distanceCall v (record { x = c .before .before .before .before .before .before .before .before .before .before .args .x; y = c .before .before .before .before .before .before .before .before .before .before .args .y })) (c .before .before .before .before .before .coverage-in .ensures)
+    let args = c .before .before .before .before .before .before .before .before .before .before .args in
+    let at-distance = c .before .before .before .before .distance in
+    let at-coverage-in = c .before .before .before .before .before .coverage-in in
+    let at-hand-distance = c .before .before .hand-distance in
+    let told : at-distance .result ≡ distanceLent (args .k .now) (args .x) (args .y) (args .out .now) =
+    at-distance .ensures
+    ∙ ap (λ (v : ClipCoverage). distanceCall v (record { x = args .x; y = args .y })) (at-coverage-in .ensures)
     ∙ kept _ _ _ _ (c .before .before .before .before .before .before .if2 .left)
     ∙ kept _ _ _ _ (c .before .before .before .before .before .before .before .if1 .left) in
-    (c .before .before .hand-distance .ensures .0 ∙ ap distanceNumber told, c .before .before .hand-distance .ensures .1 ∙ ap (λ (a : DistanceAnswer). distanceAfter a (c .before .before .before .before .before .before .before .before .before .before .args .out .now)) told)
+    (at-hand-distance .ensures .0 ∙ ap distanceNumber told, at-hand-distance .ensures .1 ∙ ap (λ (a : DistanceAnswer). distanceAfter a (args .out .now)) told)
 
 pub beamnettle-distance-spec : {M : Type 1} → statement M
 beamnettle-distance-spec =

@@ -12,8 +12,9 @@ use Rattle.beamnettle.proofs.beamnettle_fit.Tie as tie
 
 returns : tie.Need-returns
 returns c =
-    let e : Refused BufferTooShort ≡ fitLent (c .before .before .before .before .args .verbs .now) (c .before .before .before .before .args .positions .now) (c .before .before .before .before .args .out .now) = turned _ _ _ _ (c .if1 .taken) in
-    (ap boxNumber e, ap (λ (a : BoxAnswer). boxAfter a (c .before .before .before .before .args .out .now)) e)
+    let args = c .before .before .before .before .args in
+    let e : Refused BufferTooShort ≡ fitLent (args .verbs .now) (args .positions .now) (args .out .now) = turned _ _ _ _ (c .if1 .taken) in
+    (ap boxNumber e, ap (λ (a : BoxAnswer). boxAfter a (args .out .now)) e)
 
 fit-requires : tie.Need-fit-requires
 fit-requires c κs = search needs
@@ -26,10 +27,13 @@ same-length c = search needs
 
 returns-2 : tie.Need-returns-2
 returns-2 c =
-    let told : c .before .before .before .before .fit .result ≡ fitLent (c .before .before .before .before .before .before .before .before .before .args .verbs .now) (c .before .before .before .before .before .before .before .before .before .args .positions .now) (c .before .before .before .before .before .before .before .before .before .args .out .now) =
-    c .before .before .before .before .fit .ensures
+    let args = c .before .before .before .before .before .before .before .before .before .args in
+    let at-fit = c .before .before .before .before .fit in
+    let at-hand-box = c .before .before .hand-box in
+    let told : at-fit .result ≡ fitLent (args .verbs .now) (args .positions .now) (args .out .now) =
+    at-fit .ensures
     ∙ kept _ _ _ _ (c .before .before .before .before .before .if1 .left) in
-    (c .before .before .hand-box .ensures .0 ∙ ap boxNumber told, c .before .before .hand-box .ensures .1 ∙ ap (λ (a : BoxAnswer). boxAfter a (c .before .before .before .before .before .before .before .before .before .args .out .now)) told)
+    (at-hand-box .ensures .0 ∙ ap boxNumber told, at-hand-box .ensures .1 ∙ ap (λ (a : BoxAnswer). boxAfter a (args .out .now)) told)
 
 pub beamnettle-fit-spec : {M : Type 1} → statement M
 beamnettle-fit-spec =

@@ -14,12 +14,14 @@ use Rattle.beamnettle.proofs.beamnettle_parallel.Tie as tie
 
 returns : tie.Need-returns
 returns c =
-    let e : Refused BufferTooShort ≡ parallelLent (c .before .before .before .args .one .now) (c .before .before .before .args .two .now) = turned _ _ _ _ (c .if1 .taken) in
+    let args = c .before .before .before .args in
+    let e : Refused BufferTooShort ≡ parallelLent (args .one .now) (args .two .now) = turned _ _ _ _ (c .if1 .taken) in
     ap testNumber e
 
 returns-2 : tie.Need-returns-2
 returns-2 c =
-    let e : Refused BufferTooShort ≡ parallelLent (c .before .before .before .before .args .one .now) (c .before .before .before .before .args .two .now) = turned _ _ _ _ (c .if2 .taken) ∙ kept _ _ _ _ (c .before .if1 .left) in
+    let args = c .before .before .before .before .args in
+    let e : Refused BufferTooShort ≡ parallelLent (args .one .now) (args .two .now) = turned _ _ _ _ (c .if2 .taken) ∙ kept _ _ _ _ (c .before .if1 .left) in
     ap testNumber e
 
 box-in-requires : tie.Need-box-in-requires
@@ -36,13 +38,18 @@ test-number-requires c κs = search needs
 
 returns-3 : tie.Need-returns-3
 returns-3 c =
-    let told : c .before .parallel .result ≡ parallelLent (c .before .before .before .before .before .before .before .before .args .one .now) (c .before .before .before .before .before .before .before .before .args .two .now) =
-    c .before .parallel .ensures
-    ∙ ap (λ (v : RoundedBox). parallelCall v (c .before .before .box-in2 .result)) (c .before .before .before .box-in .ensures)
-    ∙ ap (λ (v : RoundedBox). parallelCall (boxIn (c .before .before .before .before .before .before .before .before .args .one .now)) v) (c .before .before .box-in2 .ensures)
+    let args = c .before .before .before .before .before .before .before .before .args in
+    let at-parallel = c .before .parallel in
+    let at-box-in = c .before .before .before .box-in in
+    let at-box-in2 = c .before .before .box-in2 in
+    let at-test-number = c .test-number in
+    let told : at-parallel .result ≡ parallelLent (args .one .now) (args .two .now) =
+    at-parallel .ensures
+    ∙ ap (λ (v : RoundedBox). parallelCall v (at-box-in2 .result)) (at-box-in .ensures)
+    ∙ ap (λ (v : RoundedBox). parallelCall (boxIn (args .one .now)) v) (at-box-in2 .ensures)
     ∙ kept _ _ _ _ (c .before .before .before .before .if2 .left)
     ∙ kept _ _ _ _ (c .before .before .before .before .before .if1 .left) in
-    c .test-number .ensures ∙ ap testNumber told
+    at-test-number .ensures ∙ ap testNumber told
 
 pub beamnettle-parallel-spec : {M : Type 1} → statement M
 beamnettle-parallel-spec =

@@ -14,18 +14,21 @@ use Rattle.beamnettle.proofs.beamnettle_rect_intersection.Tie as tie
 
 returns : tie.Need-returns
 returns c =
-    let e : Refused BufferTooShort ≡ rectIntersectionLent (c .before .before .before .before .args .one .now) (c .before .before .before .before .args .two .now) (c .before .before .before .before .args .out .now) = turned _ _ _ _ (c .if1 .taken) in
-    (ap boxNumber e, ap (λ (a : BoxAnswer). boxAfter a (c .before .before .before .before .args .out .now)) e)
+    let args = c .before .before .before .before .args in
+    let e : Refused BufferTooShort ≡ rectIntersectionLent (args .one .now) (args .two .now) (args .out .now) = turned _ _ _ _ (c .if1 .taken) in
+    (ap boxNumber e, ap (λ (a : BoxAnswer). boxAfter a (args .out .now)) e)
 
 returns-2 : tie.Need-returns-2
 returns-2 c =
-    let e : Refused BufferTooShort ≡ rectIntersectionLent (c .before .before .before .before .before .args .one .now) (c .before .before .before .before .before .args .two .now) (c .before .before .before .before .before .args .out .now) = turned _ _ _ _ (c .if2 .taken) ∙ kept _ _ _ _ (c .before .if1 .left) in
-    (ap boxNumber e, ap (λ (a : BoxAnswer). boxAfter a (c .before .before .before .before .before .args .out .now)) e)
+    let args = c .before .before .before .before .before .args in
+    let e : Refused BufferTooShort ≡ rectIntersectionLent (args .one .now) (args .two .now) (args .out .now) = turned _ _ _ _ (c .if2 .taken) ∙ kept _ _ _ _ (c .before .if1 .left) in
+    (ap boxNumber e, ap (λ (a : BoxAnswer). boxAfter a (args .out .now)) e)
 
 returns-3 : tie.Need-returns-3
 returns-3 c =
-    let e : Refused BufferTooShort ≡ rectIntersectionLent (c .before .before .before .before .before .before .args .one .now) (c .before .before .before .before .before .before .args .two .now) (c .before .before .before .before .before .before .args .out .now) = turned _ _ _ _ (c .if3 .taken) ∙ kept _ _ _ _ (c .before .if2 .left) ∙ kept _ _ _ _ (c .before .before .if1 .left) in
-    (ap boxNumber e, ap (λ (a : BoxAnswer). boxAfter a (c .before .before .before .before .before .before .args .out .now)) e)
+    let args = c .before .before .before .before .before .before .args in
+    let e : Refused BufferTooShort ≡ rectIntersectionLent (args .one .now) (args .two .now) (args .out .now) = turned _ _ _ _ (c .if3 .taken) ∙ kept _ _ _ _ (c .before .if2 .left) ∙ kept _ _ _ _ (c .before .before .if1 .left) in
+    (ap boxNumber e, ap (λ (a : BoxAnswer). boxAfter a (args .out .now)) e)
 
 box-in-requires : tie.Need-box-in-requires
 box-in-requires c κs = search needs
@@ -44,14 +47,19 @@ same-length c = search needs
 
 returns-4 : tie.Need-returns-4
 returns-4 c =
-    let told : c .before .before .before .before .rect-intersection .result ≡ rectIntersectionLent (c .before .before .before .before .before .before .before .before .before .before .before .before .before .args .one .now) (c .before .before .before .before .before .before .before .before .before .before .before .before .before .args .two .now) (c .before .before .before .before .before .before .before .before .before .before .before .before .before .args .out .now) =
-    c .before .before .before .before .rect-intersection .ensures
-    ∙ ap (λ (v : RoundedBox). rectIntersectionCall v (c .before .before .before .before .before .box-in2 .result)) (c .before .before .before .before .before .before .box-in .ensures)
-    ∙ ap (λ (v : RoundedBox). rectIntersectionCall (boxIn (c .before .before .before .before .before .before .before .before .before .before .before .before .before .args .one .now)) v) (c .before .before .before .before .before .box-in2 .ensures)
+    let args = c .before .before .before .before .before .before .before .before .before .before .before .before .before .args in
+    let at-rect-intersection = c .before .before .before .before .rect-intersection in
+    let at-box-in = c .before .before .before .before .before .before .box-in in
+    let at-box-in2 = c .before .before .before .before .before .box-in2 in
+    let at-hand-box = c .before .before .hand-box in
+    let told : at-rect-intersection .result ≡ rectIntersectionLent (args .one .now) (args .two .now) (args .out .now) =
+    at-rect-intersection .ensures
+    ∙ ap (λ (v : RoundedBox). rectIntersectionCall v (at-box-in2 .result)) (at-box-in .ensures)
+    ∙ ap (λ (v : RoundedBox). rectIntersectionCall (boxIn (args .one .now)) v) (at-box-in2 .ensures)
     ∙ kept _ _ _ _ (c .before .before .before .before .before .before .before .if3 .left)
     ∙ kept _ _ _ _ (c .before .before .before .before .before .before .before .before .if2 .left)
     ∙ kept _ _ _ _ (c .before .before .before .before .before .before .before .before .before .if1 .left) in
-    (c .before .before .hand-box .ensures .0 ∙ ap boxNumber told, c .before .before .hand-box .ensures .1 ∙ ap (λ (a : BoxAnswer). boxAfter a (c .before .before .before .before .before .before .before .before .before .before .before .before .before .args .out .now)) told)
+    (at-hand-box .ensures .0 ∙ ap boxNumber told, at-hand-box .ensures .1 ∙ ap (λ (a : BoxAnswer). boxAfter a (args .out .now)) told)
 
 pub beamnettle-rect-intersection-spec : {M : Type 1} → statement M
 beamnettle-rect-intersection-spec =

@@ -15,18 +15,21 @@ use Rattle.beamnettle.proofs.beamnettle_transformed.Tie as tie
 
 returns : tie.Need-returns
 returns c =
-    let e : Refused BufferTooShort ≡ transformedLent (c .before .before .before .before .args .b .now) (c .before .before .before .before .args .frame .now) (c .before .before .before .before .args .out .now) = turned _ _ _ _ (c .if1 .taken) in
-    (ap boxNumber e, ap (λ (a : BoxAnswer). boxAfter a (c .before .before .before .before .args .out .now)) e)
+    let args = c .before .before .before .before .args in
+    let e : Refused BufferTooShort ≡ transformedLent (args .b .now) (args .frame .now) (args .out .now) = turned _ _ _ _ (c .if1 .taken) in
+    (ap boxNumber e, ap (λ (a : BoxAnswer). boxAfter a (args .out .now)) e)
 
 returns-2 : tie.Need-returns-2
 returns-2 c =
-    let e : Refused BufferTooShort ≡ transformedLent (c .before .before .before .before .before .args .b .now) (c .before .before .before .before .before .args .frame .now) (c .before .before .before .before .before .args .out .now) = turned _ _ _ _ (c .if2 .taken) ∙ kept _ _ _ _ (c .before .if1 .left) in
-    (ap boxNumber e, ap (λ (a : BoxAnswer). boxAfter a (c .before .before .before .before .before .args .out .now)) e)
+    let args = c .before .before .before .before .before .args in
+    let e : Refused BufferTooShort ≡ transformedLent (args .b .now) (args .frame .now) (args .out .now) = turned _ _ _ _ (c .if2 .taken) ∙ kept _ _ _ _ (c .before .if1 .left) in
+    (ap boxNumber e, ap (λ (a : BoxAnswer). boxAfter a (args .out .now)) e)
 
 returns-3 : tie.Need-returns-3
 returns-3 c =
-    let e : Refused BufferTooShort ≡ transformedLent (c .before .before .before .before .before .before .args .b .now) (c .before .before .before .before .before .before .args .frame .now) (c .before .before .before .before .before .before .args .out .now) = turned _ _ _ _ (c .if3 .taken) ∙ kept _ _ _ _ (c .before .if2 .left) ∙ kept _ _ _ _ (c .before .before .if1 .left) in
-    (ap boxNumber e, ap (λ (a : BoxAnswer). boxAfter a (c .before .before .before .before .before .before .args .out .now)) e)
+    let args = c .before .before .before .before .before .before .args in
+    let e : Refused BufferTooShort ≡ transformedLent (args .b .now) (args .frame .now) (args .out .now) = turned _ _ _ _ (c .if3 .taken) ∙ kept _ _ _ _ (c .before .if2 .left) ∙ kept _ _ _ _ (c .before .before .if1 .left) in
+    (ap boxNumber e, ap (λ (a : BoxAnswer). boxAfter a (args .out .now)) e)
 
 box-in-requires : tie.Need-box-in-requires
 box-in-requires c κs = search needs
@@ -45,14 +48,19 @@ same-length c = search needs
 
 returns-4 : tie.Need-returns-4
 returns-4 c =
-    let told : c .before .before .before .before .transformed .result ≡ transformedLent (c .before .before .before .before .before .before .before .before .before .before .before .before .before .args .b .now) (c .before .before .before .before .before .before .before .before .before .before .before .before .before .args .frame .now) (c .before .before .before .before .before .before .before .before .before .before .before .before .before .args .out .now) =
-    c .before .before .before .before .transformed .ensures
-    ∙ ap (λ (v : RoundedBox). transformedCall v (c .before .before .before .before .before .frame-in .result)) (c .before .before .before .before .before .before .box-in .ensures)
-    ∙ ap (λ (v : Transform2D). transformedCall (boxIn (c .before .before .before .before .before .before .before .before .before .before .before .before .before .args .b .now)) v) (c .before .before .before .before .before .frame-in .ensures)
+    let args = c .before .before .before .before .before .before .before .before .before .before .before .before .before .args in
+    let at-transformed = c .before .before .before .before .transformed in
+    let at-box-in = c .before .before .before .before .before .before .box-in in
+    let at-frame-in = c .before .before .before .before .before .frame-in in
+    let at-hand-box = c .before .before .hand-box in
+    let told : at-transformed .result ≡ transformedLent (args .b .now) (args .frame .now) (args .out .now) =
+    at-transformed .ensures
+    ∙ ap (λ (v : RoundedBox). transformedCall v (at-frame-in .result)) (at-box-in .ensures)
+    ∙ ap (λ (v : Transform2D). transformedCall (boxIn (args .b .now)) v) (at-frame-in .ensures)
     ∙ kept _ _ _ _ (c .before .before .before .before .before .before .before .if3 .left)
     ∙ kept _ _ _ _ (c .before .before .before .before .before .before .before .before .if2 .left)
     ∙ kept _ _ _ _ (c .before .before .before .before .before .before .before .before .before .if1 .left) in
-    (c .before .before .hand-box .ensures .0 ∙ ap boxNumber told, c .before .before .hand-box .ensures .1 ∙ ap (λ (a : BoxAnswer). boxAfter a (c .before .before .before .before .before .before .before .before .before .before .before .before .before .args .out .now)) told)
+    (at-hand-box .ensures .0 ∙ ap boxNumber told, at-hand-box .ensures .1 ∙ ap (λ (a : BoxAnswer). boxAfter a (args .out .now)) told)
 
 pub beamnettle-transformed-spec : {M : Type 1} → statement M
 beamnettle-transformed-spec =
