@@ -24,7 +24,7 @@ use Rattle.coverage.specs.declared.Size.{Size}
 use Rattle.coverage.specs.Drawing.{groupRow, addGroups, drawingRow, rowsFrom, drawingOf}
 use Rattle.mask.specs.Calls.{cellsOf, tooLarge, floatsNeeded, countersNeeded, Lent, listAnswer, drawAnswer, maskAfterDrawing}
 use Rattle.mask.specs.Laws.{CanDraw, DoneExactlyWhen, SameCells}
-use Rattle.mask.specs.Examples.{DrawnAsListed}
+use Rattle.mask.specs.Examples.{DrawnAsListed, TellsXFromY}
 use Rattle.mask.specs.declared.Outcome.{Outcome}
 use Rattle.mask.specs.declared.Outcome.the-variants.{Done, Refused}
 use Rattle.coverage.proofs.Places.{drawing-length}
@@ -95,3 +95,10 @@ unfolding rowsFrom addGroups groupRow piecesOf pieceOf activeEdges reachingBelow
     andThen beyond readCount readCoordinate readPoint readPoints readContour readContours readGroup readGroups readWords pointsOf pointsIn
     ofBits ofFields odd units round size span climb ofInt add sub sum mul div rem neg lt le eq ne isNan toUnsigned trailingZeros
 drawn-as-listed = refl
+
+pub tells-x-from-y : TellsXFromY
+unfolding rowsFrom addGroups groupRow piecesOf pieceOf activeEdges reachingBelow startingIn edgesOf contourOf lastOf walkOf edgeOf slopedOf
+    addBytes bytesOf coveredOf shareOf absOf minOf maxOf clipOf spanBy insideOf ceilColumn acrossOf betweenOf singleOf evenlyOf addOf
+    andThen beyond readCount readCoordinate readPoint readPoints readContour readContours readGroup readGroups readWords pointsOf pointsIn
+    ofBits ofFields odd units round size span climb ofInt add sub sum mul div rem neg lt le eq ne isNan toUnsigned trailingZeros
+tells-x-from-y = refl

@@ -1,4 +1,4 @@
--- Document 01's five starred drawings, as one table. Definitions only; proofs/Laws.antt computes them.
+-- Document 01's five starred drawings, as one table, and one that tells x from y. Definitions only; proofs/Laws.antt computes them.
 use mathlib.Core.Path.{_≡_}
 use mathlib.Core.List.{List, [], _∷_, map}
 use Prim.Native.Nat.{ℕ}
@@ -30,3 +30,7 @@ drawings =
 
 abbrev pub DrawnAsListed : Type 0
 DrawnAsListed = map (λ (d : Example). drawingOf exampleSize (groupsOf (d .words))) drawings ≡ map (λ (d : Example). d .cells) drawings
+
+-- a rectangle to (512,256) covers both cells; with x and y taken for each other it would cover one
+abbrev pub TellsXFromY : Type 0
+TellsXFromY = drawingOf exampleSize (groupsOf (pos 0 ∷ pos 1 ∷ rectangle 512 [])) ≡ 255 ∷ 255 ∷ []

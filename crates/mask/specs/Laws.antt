@@ -1,14 +1,17 @@
 -- What document 01 says of drawings as a whole, stated of the definitions in Calls.antt. Proved in proofs/Laws.antt.
 use mathlib.Core.Path.{_≡_}
+use mathlib.Core.Logic.{_⊎_}
 use mathlib.Core.List.{List}
-use Prim.Native.Nat.{ℕ, _≤_}
+use Prim.Native.Nat.{ℕ, _≤_, _<_}
 use lib.IntN.{ℤ}
 use lib.ListN.{length, take}
-use Rattle.words.specs.Words.{Group}
+use Rattle.fault.specs.declared.Fault.{Fault}
+use Rattle.fault.specs.declared.Fault.the-variants.{MaskTooLarge, BufferTooShort, ListEndsEarly, CountOutOfRange, CoordinateOutOfRange}
+use Rattle.words.specs.Words.{Group, Read, ok, fault, readWords}
 use Rattle.words.specs.Writer.{wordsOf, Allowed}
 use Rattle.coverage.specs.declared.Size.{Size}
 use Rattle.mask.specs.Calls.{cellsOf, floatsNeeded, countersNeeded, Lent, drawAnswer, maskAfterDrawing}
-use Rattle.mask.specs.declared.Outcome.the-variants.{Done}
+use Rattle.mask.specs.declared.Outcome.the-variants.{Done, Refused}
 
 -- what a drawing asks for: none of the causes 3 to 7 of document 01's table. Said without the reading: the list is the writing of allowed groups
 pub record CanDraw (size : Size) (words : List ℤ) (lent : Lent) : Type 0 where
@@ -25,6 +28,34 @@ pub record CanDraw (size : Size) (words : List ℤ) (lent : Lent) : Type 0 where
 pub record DoneExactlyWhen : Type 0 where
   pub only : (size : Size) (words : List ℤ) (lent : Lent) → drawAnswer size words lent ≡ Done → CanDraw size words lent
   pub always : (size : Size) (words : List ℤ) (lent : Lent) → CanDraw size words lent → drawAnswer size words lent ≡ Done
+
+-- Why a drawing is refused with a fault, in document 01's order: 'Order when drawing: 3, then 4 for the mask, then the list from its first word (5, 6 or 7 ..), then 4 for scratch.'
+-- Each cause is given with none before it
+abbrev pub TooLarge : Size → Type 0
+TooLarge size = (4096 < size .width) ⊎ (4096 < size .height)
+
+abbrev pub SizeAllowed : Size → Type 0
+SizeAllowed size = (size .width ≤ 4096) × (size .height ≤ 4096)
+
+abbrev pub ScratchShort : Size → List ℤ → Lent → Type 0
+ScratchShort size words lent =
+    (gs : List Group) × (rest : List ℤ) × (readWords words ≡ ok gs rest) × ((lent .floats < floatsNeeded size gs) ⊎ (lent .counters < countersNeeded size))
+
+abbrev pub FirstCause : Size → List ℤ → Lent → Fault → Type 0
+FirstCause size words lent f =
+    (TooLarge size × (f ≡ MaskTooLarge))
+    ⊎ ((SizeAllowed size × (lent .mask < cellsOf size) × (f ≡ BufferTooShort))
+    ⊎ ((SizeAllowed size × (cellsOf size ≤ lent .mask) × (readWords words ≡ fault f))
+    ⊎ (SizeAllowed size × (cellsOf size ≤ lent .mask) × ScratchShort size words lent × (f ≡ BufferTooShort))))
+
+-- a drawing is refused with a fault exactly when that is its first cause
+pub record RefusedExactlyWhen : Type 0 where
+  pub only : (size : Size) (words : List ℤ) (lent : Lent) (f : Fault) → drawAnswer size words lent ≡ Refused f → FirstCause size words lent f
+  pub always : (size : Size) (words : List ℤ) (lent : Lent) (f : Fault) → FirstCause size words lent f → drawAnswer size words lent ≡ Refused f
+
+-- 'Numbers are given only for these causes': a list's fault is 5, 6 or 7
+abbrev pub ListFaults : Type 0
+ListFaults = (words : List ℤ) (f : Fault) → readWords words ≡ fault f → (f ≡ ListEndsEarly) ⊎ ((f ≡ CountOutOfRange) ⊎ (f ≡ CoordinateOutOfRange))
 
 -- Whatever the mask held before, its cells are the same after a done drawing. (The answer and the cells do not read the scratch: drawAnswer is given its length
 -- alone, and maskAfterDrawing nothing of it.)
