@@ -1,4 +1,5 @@
 // What is written: an answer a line.
+use crate::fields::Problem;
 use fault::Fault;
 use geometry::Bounds;
 use libc::STDOUT_FILENO;
@@ -10,7 +11,6 @@ use shape::CoverageAnswer;
 use shape::DistanceAnswer;
 use shape::RoundedBox;
 use shape::TestAnswer;
-use crate::fields::Problem;
 
 pub fn write(text: &[u8]) {
     io::write_all(STDOUT_FILENO, text);
@@ -141,10 +141,10 @@ fn message(problem: Problem) {
         Problem::UnknownBuffer => write(b"the buffers are 'run' and 'next'"),
         Problem::FieldMissing => write(b"the line ends where a field should stand"),
         Problem::FieldTooMany => write(b"the call takes no more fields"),
-        Problem::NotANumber => write(b"a field is not a decimal number that fits"),
+        Problem::NotANumber => write(b"a decimal number is missing, badly written or too large"),
         Problem::NotAFloat => write(b"a float is not written as eight hexadecimal digits"),
         Problem::NotHex => write(b"the bytes are not written as pairs of hexadecimal digits"),
-        Problem::NotAVerb => write(b"a verb or a byte is not a decimal number up to 255"),
+        Problem::NotAByte => write(b"a verb or a byte is not a decimal number up to 255"),
         Problem::BufferTooLong => write(b"a buffer has at most 65,536 bytes"),
         Problem::TooManyWords => write(b"a drawing takes at most 16,384 words"),
         Problem::TooManyFloats => write(b"an outline's line takes at most 2,048 floats"),
@@ -163,8 +163,8 @@ fn report(line: u64, problem: Problem) {
 
 // Says what is wrong with a line, if anything is.
 pub fn tell(line: u64, problem: Problem) {
-    match problem {
-        Problem::Nothing => write(b""),
-        other => report(line, other),
-    }
+    let Problem::Nothing = problem else {
+        report(line, problem);
+        return;
+    };
 }

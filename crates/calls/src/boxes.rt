@@ -1,8 +1,4 @@
 // The calls on boxes.
-use geometry::Position;
-use geometry::Transform2D;
-use shape::ClipCoverage;
-use shape::RoundedBox;
 use crate::answers;
 use crate::fields;
 use crate::fields::Field;
@@ -10,6 +6,10 @@ use crate::fields::MOST_FLOATS;
 use crate::fields::MOST_LINE;
 use crate::fields::MOST_VERBS;
 use crate::fields::Problem;
+use geometry::Position;
+use geometry::Transform2D;
+use shape::ClipCoverage;
+use shape::RoundedBox;
 ghost use Prim.Native.Nat.{_<_};
 
 enum BoxCall {
@@ -109,10 +109,7 @@ fn coverage_of(f: &[f32; MOST_FLOATS]) -> ClipCoverage {
 }
 
 fn distance(f: &[f32; MOST_FLOATS]) {
-    let p = Position {
-        x: f[11],
-        y: f[12],
-    };
+    let p = Position { x: f[11], y: f[12] };
     answers::distance(coverage_of(f).distance(p));
 }
 
@@ -157,12 +154,22 @@ fn fit_lent(verbs: &[u8], verb_count: usize, floats: &[f32], float_count: usize)
     Problem::Nothing
 }
 
-fn fit_lists(verbs: &[u8; MOST_VERBS], verb_count: usize, floats: &[f32; MOST_FLOATS], float_count: usize) -> Problem {
+fn fit_lists(
+    verbs: &[u8; MOST_VERBS],
+    verb_count: usize,
+    floats: &[f32; MOST_FLOATS],
+    float_count: usize,
+) -> Problem {
     fit_lent(verbs, verb_count, floats, float_count)
 }
 
 // The outline's positions, and the answer.
-fn fit_positions(line: &[u8; MOST_LINE], at: usize, verbs: &[u8; MOST_VERBS], verb_count: usize) -> Problem {
+fn fit_positions(
+    line: &[u8; MOST_LINE],
+    at: usize,
+    verbs: &[u8; MOST_VERBS],
+    verb_count: usize,
+) -> Problem {
     let mut floats = [0f32; MOST_FLOATS];
     let count = fields::size_at(line, at);
     if !count.good {

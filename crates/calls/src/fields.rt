@@ -5,7 +5,9 @@ ghost use mathlib.Core.Path.{_≡_};
 pub const MOST_LINE: usize = 262144;
 // The most words of a drawing.
 pub const MOST_WORDS: usize = 16384;
+
 pub const MOST_FLOATS: usize = 2048;
+
 pub const MOST_VERBS: usize = 512;
 
 // What is wrong with a line.
@@ -19,7 +21,7 @@ pub enum Problem {
     NotANumber,
     NotAFloat,
     NotHex,
-    NotAVerb,
+    NotAByte,
     BufferTooLong,
     TooManyWords,
     TooManyFloats,
@@ -111,7 +113,9 @@ const NO_NUMBER: u64 = 0x100_0000_0000;
 // Below this a number has room for one digit more.
 const ROOM: u64 = 0x1000_0000;
 
-pub fn wide(b: u8) -> u64 {
+pub fn wide(b: u8) -> u64
+    ensures { λ r. ⌜ r ≡ b ⌝ }
+{
     b as u64
 }
 
@@ -129,24 +133,24 @@ fn digit(b: u8) -> u8 {
     NO_DIGIT
 }
 
+// A number with one digit more, to the base of sixteen or of ten.
 fn push_digit(value: u64, d: u8, sixteen: bool) -> u64 {
     if value >= ROOM {
         return NO_NUMBER;
     }
-    if d < 10 {
-        if sixteen {
-            return value * 16 + wide_digit(d);
+    if sixteen {
+        if d < 16 {
+            return value * 16 + wide(d);
         }
-        return value * 10 + wide_digit(d);
+        return NO_NUMBER;
     }
-    if d < 16 {
-        if sixteen {
-            return value * 16 + wide_digit(d);
-        }
+    if d < 10 {
+        return value * 10 + wide(d);
     }
     NO_NUMBER
 }
 
+// The number whose digits stand from `start` up to `end`.
 fn number(line: &[u8; MOST_LINE], start: usize, end: usize, sixteen: bool) -> u64 {
     if end <= start {
         return NO_NUMBER;
@@ -158,12 +162,6 @@ fn number(line: &[u8; MOST_LINE], start: usize, end: usize, sixteen: bool) -> u6
         i += 1;
     }
     value
-}
-
-fn wide_digit(d: u8) -> u64
-    ensures { λ r. ⌜ r ≡ d ⌝ }
-{
-    d as u64
 }
 
 // The byte of two hexadecimal digits.
@@ -301,15 +299,6 @@ pub struct List {
     pub problem: Problem,
 }
 
-pub fn start_of(at: usize) -> List {
-    List {
-        at,
-        count: 0,
-        more: true,
-        problem: Problem::Nothing,
-    }
-}
-
 fn ended(l: List, problem: Problem) -> List {
     List {
         at: l.at,
@@ -319,7 +308,7 @@ fn ended(l: List, problem: Problem) -> List {
     }
 }
 
-fn one_more(at: usize, count: usize) -> List {
+fn going_on(at: usize, count: usize) -> List {
     List {
         at,
         count,
@@ -341,12 +330,12 @@ fn next_word(line: &[u8; MOST_LINE], out: &mut [i32; MOST_WORDS], l: List) -> Li
         return ended(l, Problem::TooManyWords);
     }
     out[n] = v;
-    one_more(f.end, n + 1)
+    going_on(f.end, n + 1)
 }
 
 // The rest of the line as words.
 pub fn words(line: &[u8; MOST_LINE], from: usize, out: &mut [i32; MOST_WORDS]) -> List {
-    let mut l = start_of(from);
+    let mut l = going_on(from, 0);
     let mut turns = MOST_LINE;
     while turns > 0 && l.more {
         l = next_word(line, out, l);
@@ -368,12 +357,17 @@ fn next_float(line: &[u8; MOST_LINE], out: &mut [f32; MOST_FLOATS], l: List) -> 
         return ended(l, Problem::TooManyFloats);
     }
     out[n] = v;
-    one_more(f.end, n + 1)
+    going_on(f.end, n + 1)
 }
 
 // So many floats.
-pub fn floats(line: &[u8; MOST_LINE], from: usize, wanted: usize, out: &mut [f32; MOST_FLOATS]) -> List {
-    let mut l = start_of(from);
+pub fn floats(
+    line: &[u8; MOST_LINE],
+    from: usize,
+    wanted: usize,
+    out: &mut [f32; MOST_FLOATS],
+) -> List {
+    let mut l = going_on(from, 0);
     let mut turns = wanted;
     while turns > 0 && l.more {
         l = next_float(line, out, l);
@@ -388,22 +382,27 @@ fn next_verb(line: &[u8; MOST_LINE], out: &mut [u8; MOST_VERBS], l: List) -> Lis
         return ended(l, Problem::FieldMissing);
     }
     let NaturalField::Value(v) = natural(line, f) else {
-        return ended(l, Problem::NotAVerb);
+        return ended(l, Problem::NotAByte);
     };
     if v > 255 {
-        return ended(l, Problem::NotAVerb);
+        return ended(l, Problem::NotAByte);
     }
     let n = l.count;
     if n >= MOST_VERBS {
         return ended(l, Problem::TooManyVerbs);
     }
     out[n] = v as u8;
-    one_more(f.end, n + 1)
+    going_on(f.end, n + 1)
 }
 
 // So many verbs.
-pub fn verbs(line: &[u8; MOST_LINE], from: usize, wanted: usize, out: &mut [u8; MOST_VERBS]) -> List {
-    let mut l = start_of(from);
+pub fn verbs(
+    line: &[u8; MOST_LINE],
+    from: usize,
+    wanted: usize,
+    out: &mut [u8; MOST_VERBS],
+) -> List {
+    let mut l = going_on(from, 0);
     let mut turns = wanted;
     while turns > 0 && l.more {
         l = next_verb(line, out, l);

@@ -1,6 +1,6 @@
 // Standard input, read line by line.
-use libc::STDIN_FILENO;
 use crate::fields::MOST_LINE;
+use libc::STDIN_FILENO;
 
 pub const CHUNK: usize = 65536;
 
@@ -22,7 +22,14 @@ pub struct Reading {
 }
 
 // Ends the line with a line end, behind the bytes that it has.
-fn end_line(line: &mut [u8; MOST_LINE], at: usize, have: usize, length: usize, over: bool, found: bool) -> Reading {
+fn end_line(
+    line: &mut [u8; MOST_LINE],
+    at: usize,
+    have: usize,
+    length: usize,
+    over: bool,
+    found: bool,
+) -> Reading {
     if length < MOST_LINE {
         line[length] = b'\n';
     }

@@ -1,15 +1,17 @@
 // The calls on a mask buffer.
-use coverage::Size;
-use libc::STDOUT_FILENO;
 use crate::answers;
 use crate::fields;
 use crate::fields::Field;
 use crate::fields::MOST_LINE;
 use crate::fields::MOST_WORDS;
 use crate::fields::Problem;
+use coverage::Size;
+use libc::STDOUT_FILENO;
 
 pub const MOST_BYTES: usize = 65536;
+
 const MOST_SCRATCH_FLOATS: usize = 40000;
+
 const MOST_SCRATCH_COUNTERS: usize = 5000;
 
 // A buffer's length after a call, and what is wrong with the call's line.
@@ -62,7 +64,12 @@ fn hex_problem(line: &[u8; MOST_LINE], f: Field) -> Problem {
     fields::at_end(line, end)
 }
 
-fn buf(line: &[u8; MOST_LINE], at: usize, buffer: &mut [u8; MOST_BYTES], length: usize) -> AfterCall {
+fn buf(
+    line: &[u8; MOST_LINE],
+    at: usize,
+    buffer: &mut [u8; MOST_BYTES],
+    length: usize,
+) -> AfterCall {
     let f = fields::next(line, at);
     if fields::is(line, f, b"-") {
         let Problem::Nothing = fields::at_end(line, f.end) else {
@@ -87,7 +94,12 @@ fn fill(buffer: &mut [u8; MOST_BYTES], length: usize, byte: u8) {
     }
 }
 
-fn bufn(line: &[u8; MOST_LINE], at: usize, buffer: &mut [u8; MOST_BYTES], length: usize) -> AfterCall {
+fn bufn(
+    line: &[u8; MOST_LINE],
+    at: usize,
+    buffer: &mut [u8; MOST_BYTES],
+    length: usize,
+) -> AfterCall {
     let first = fields::size_at(line, at);
     let second = fields::size_at(line, first.at);
     if !first.good || !second.good {
@@ -99,7 +111,7 @@ fn bufn(line: &[u8; MOST_LINE], at: usize, buffer: &mut [u8; MOST_BYTES], length
         return left(length, Problem::BufferTooLong);
     }
     if byte > 255 {
-        return left(length, Problem::NotAVerb);
+        return left(length, Problem::NotAByte);
     }
     let Problem::Nothing = fields::at_end(line, second.at) else {
         return left(length, Problem::FieldTooMany);
@@ -128,6 +140,57 @@ fn show(line: &[u8; MOST_LINE], at: usize, buffer: &[u8; MOST_BYTES], length: us
     }
     show_bytes(buffer, length);
     answers::write(b"\n");
+    left(length, Problem::Nothing)
+}
+
+// A cell's shade, from none to all.
+fn shade(byte: u8) {
+    match byte {
+        0..=25 => answers::write(b" "),
+        26..=76 => answers::write(b"."),
+        77..=127 => answers::write(b":"),
+        128..=178 => answers::write(b"+"),
+        179..=229 => answers::write(b"#"),
+        230..=255 => answers::write(b"@"),
+    }
+}
+
+// A line for each row that the buffer has whole or in part.
+fn picture_cells(buffer: &[u8; MOST_BYTES], length: usize, width: usize, height: usize) {
+    if width == 0 {
+        return;
+    }
+    let mut i = 0;
+    while i < MOST_BYTES {
+        if length <= i {
+            return;
+        }
+        if height <= i / width {
+            return;
+        }
+        shade(buffer[i]);
+        i += 1;
+        if i % width == 0 {
+            answers::write(b"\n");
+        }
+    }
+}
+
+fn picture(
+    line: &[u8; MOST_LINE],
+    at: usize,
+    buffer: &[u8; MOST_BYTES],
+    length: usize,
+) -> AfterCall {
+    let width = fields::size_at(line, at);
+    let height = fields::size_at(line, width.at);
+    if !width.good || !height.good {
+        return left(length, Problem::NotANumber);
+    }
+    let Problem::Nothing = fields::at_end(line, height.at) else {
+        return left(length, Problem::FieldTooMany);
+    };
+    picture_cells(buffer, length, width.value, height.value);
     left(length, Problem::Nothing)
 }
 
@@ -164,26 +227,34 @@ fn draw_lent(
     if lent_counters > counters.len() {
         return Problem::ScratchTooLong;
     }
-    answers::outcome(
-        mask::rasterize_into(
-            &mut mask[..cells],
-            size,
-            &words[..count],
-            &mut floats[..lent_floats],
-            &mut counters[..lent_counters],
-        ),
-    );
+    answers::outcome(mask::rasterize_into(
+        &mut mask[..cells],
+        size,
+        &words[..count],
+        &mut floats[..lent_floats],
+        &mut counters[..lent_counters],
+    ));
     Problem::Nothing
 }
 
 // Draws over scratch that holds rubbish first.
-fn draw_words(mask: &mut [u8; MOST_BYTES], size: Size, words: &[i32; MOST_WORDS], lent: Lent) -> Problem {
+fn draw_words(
+    mask: &mut [u8; MOST_BYTES],
+    size: Size,
+    words: &[i32; MOST_WORDS],
+    lent: Lent,
+) -> Problem {
     let mut floats = [0.5f32; MOST_SCRATCH_FLOATS];
     let mut counters = [7u64; MOST_SCRATCH_COUNTERS];
     draw_lent(mask, size, words, &mut floats, &mut counters, lent)
 }
 
-fn draw(line: &[u8; MOST_LINE], at: usize, buffer: &mut [u8; MOST_BYTES], length: usize) -> Problem {
+fn draw(
+    line: &[u8; MOST_LINE],
+    at: usize,
+    buffer: &mut [u8; MOST_BYTES],
+    length: usize,
+) -> Problem {
     let mut words = [0i32; MOST_WORDS];
     let width = fields::size_at(line, at);
     let height = fields::size_at(line, width.at);
@@ -227,10 +298,17 @@ pub fn answer(
     if fields::is(line, name, b"show") {
         return show(line, at, buffer, length);
     }
+    if fields::is(line, name, b"picture") {
+        return picture(line, at, buffer, length);
+    }
     left(length, draw(line, at, buffer, length))
 }
 
 // Whether a name is that of a call on a buffer.
 pub fn has(line: &[u8; MOST_LINE], name: Field) -> bool {
-    fields::is(line, name, b"buf") || fields::is(line, name, b"bufn") || fields::is(line, name, b"show") || fields::is(line, name, b"draw")
+    fields::is(line, name, b"buf")
+        || fields::is(line, name, b"bufn")
+        || fields::is(line, name, b"show")
+        || fields::is(line, name, b"picture")
+        || fields::is(line, name, b"draw")
 }

@@ -9,8 +9,8 @@ Inv-loop line from out₀ l₀ turns₀ out l turns = Unit {0}
 abbrev μ-loop : tie.MeasureT-loop
 μ-loop line from out₀ l₀ turns₀ out l turns = turns
 
-start-of-requires : tie.Need-start-of-requires Inv-loop μ-loop
-start-of-requires c κs = search needs
+going-on-requires : tie.Need-going-on-requires Inv-loop μ-loop
+going-on-requires c κs = search needs
 
 loop-holds : tie.Need-loop-holds Inv-loop μ-loop
 loop-holds c = search needs
@@ -39,7 +39,7 @@ words-spec =
     (tie.spec
     Inv-loop
     μ-loop
-    start-of-requires
+    going-on-requires
     loop-holds
     next-word-requires
     sub-turns
