@@ -1,0 +1,2 @@
+-- Patterns: which bit patterns are no NaN's.
+mod Patterns

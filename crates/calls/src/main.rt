@@ -1,0 +1,142 @@
+// Reads a list of calls, one a line, and writes an answer a line: README.md, 'A list of calls'.
+mod answers;
+mod boxes;
+mod fields;
+mod input;
+mod masks;
+
+use fields::Field;
+use fields::MOST_LINE;
+use fields::Problem;
+use input::CHUNK;
+use input::Input;
+use masks::MOST_BYTES;
+
+// What is kept from line to line, beside the buffers' bytes.
+struct Session {
+    at: usize,
+    have: usize,
+    line: u64,
+    run: usize,
+    next: usize,
+    open: bool,
+}
+
+// Answers a call on a buffer.
+fn on_buffer(
+    line: &[u8; MOST_LINE],
+    name: Field,
+    run: &mut [u8; MOST_BYTES],
+    next: &mut [u8; MOST_BYTES],
+    s: Session,
+) -> Session {
+    let which = fields::next(line, name.end);
+    if fields::is(line, which, b"run") {
+        let l = masks::answer(line, name, which.end, run, s.run);
+        let problem = l.problem;
+        return kept(s, l.length, s.next, problem);
+    }
+    if fields::is(line, which, b"next") {
+        let l = masks::answer(line, name, which.end, next, s.next);
+        let problem = l.problem;
+        return kept(s, s.run, l.length, problem);
+    }
+    kept(s, s.run, s.next, Problem::UnknownBuffer)
+}
+
+// Says what is wrong, if anything is, and keeps the buffers' lengths.
+fn kept(s: Session, run: usize, next: usize, problem: Problem) -> Session {
+    answers::tell(s.line, problem);
+    Session {
+        at: s.at,
+        have: s.have,
+        line: s.line,
+        run,
+        next,
+        open: s.open,
+    }
+}
+
+// Answers a line, if it holds a call.
+fn answer(
+    line: &[u8; MOST_LINE],
+    run: &mut [u8; MOST_BYTES],
+    next: &mut [u8; MOST_BYTES],
+    s: Session,
+) -> Session {
+    let name = fields::next(line, 0);
+    if fields::is_empty(name) {
+        return s;
+    }
+    if fields::byte_at(line, name.start) == b'#' {
+        return s;
+    }
+    if masks::has(line, name) {
+        return on_buffer(line, name, run, next, s);
+    }
+    kept(s, s.run, s.next, boxes::answer(line, name))
+}
+
+fn one_more(n: u64) -> u64 {
+    if n < u64::MAX { n + 1 } else { n }
+}
+
+// Reads a line and answers it.
+fn turn(
+    chunk: &mut [u8; CHUNK],
+    line: &mut [u8; MOST_LINE],
+    run: &mut [u8; MOST_BYTES],
+    next: &mut [u8; MOST_BYTES],
+    s: Session,
+) -> Session {
+    let r = input::read_line(
+        chunk,
+        line,
+        Input {
+            at: s.at,
+            have: s.have,
+        },
+    );
+    let now = Session {
+        at: r.at,
+        have: r.have,
+        line: one_more(s.line),
+        run: s.run,
+        next: s.next,
+        open: r.found,
+    };
+    if r.over {
+        return kept(now, s.run, s.next, Problem::LineTooLong);
+    }
+    answer(line, run, next, now)
+}
+
+// Answers every line. The turns are counted down, from a number that no input uses up.
+fn answer_all(
+    chunk: &mut [u8; CHUNK],
+    line: &mut [u8; MOST_LINE],
+    run: &mut [u8; MOST_BYTES],
+    next: &mut [u8; MOST_BYTES],
+) {
+    let mut s = Session {
+        at: 0,
+        have: 0,
+        line: 0,
+        run: 0,
+        next: 0,
+        open: true,
+    };
+    let mut turns = u64::MAX;
+    while turns > 0 && s.open {
+        s = turn(chunk, line, run, next, s);
+        turns -= 1;
+    }
+}
+
+fn main() {
+    let mut chunk = [0u8; CHUNK];
+    let mut line = [0u8; MOST_LINE];
+    let mut run = [0u8; MOST_BYTES];
+    let mut next = [0u8; MOST_BYTES];
+    answer_all(&mut chunk, &mut line, &mut run, &mut next);
+}
