@@ -153,6 +153,11 @@ fn upright(x: f32, y: f32, extent: [f32; 2], radii: [f32; 2]) -> [f32; 10] {
     [1.0, 0.0, 0.0, 1.0, x, y, extent[0], extent[1], radii[0], radii[1]]
 }
 
+fn square_cornered(mut b: [f32; 10]) -> [f32; 10] {
+    b[8..].fill(0.0);
+    b
+}
+
 fn points(count: i32) -> Vec<i32> {
     let mut words = vec![0, 1, count];
     words.resize(3 + 2 * count as usize, 0);
@@ -336,7 +341,7 @@ fn random(l: &mut List) {
         let size = if turn % 20 == 0 { [r.below(70), r.below(8)] } else { [r.below(9), r.below(6)] };
         let words = r.words(size[0], size[1]);
         let name = ["run", "next"][r.below(2) as usize];
-        l.draw(name, size.map(|n| n as usize), &words, 90, [1, 0, 0]);
+        l.draw(name, size.map(|n| n as usize), &words, 90, [r.below(2) as usize, 0, 0]);
     }
     l.line("# random boxes");
     for _ in 0..120 {
@@ -347,7 +352,11 @@ fn random(l: &mut List) {
         l.call("intersection", &[&b[..], &other, &[fringe]].concat());
         l.call("rect_intersection", &[&b[..], &other].concat());
         l.call("coverage", &[&b[..], &[fringe]].concat());
+        let (sharp, beside) = (square_cornered(b), square_cornered(other));
+        l.call("intersection", &[&sharp[..], &beside, &[fringe]].concat());
+        l.call("rect_intersection", &[&sharp[..], &beside].concat());
         l.call("parallel", &[&b[..], &other].concat());
+        l.call("parallel", &[&b[..], &r.boxed()].concat());
         l.call("contains", &[&c[..], &other].concat());
         l.call("bounds", &b);
         l.call("distance", &[&c[..], &[r.float(-50.0, 50.0), r.float(-50.0, 50.0)]].concat());
