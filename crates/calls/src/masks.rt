@@ -10,6 +10,8 @@ use libc::STDOUT_FILENO;
 
 pub const MOST_BYTES: usize = 65536;
 
+// Scratch that is lent at most. No drawing asks for more than 34,816 floats and 4,161 counters, so
+// that a longer one changes no answer.
 const MOST_SCRATCH_FLOATS: usize = 40000;
 
 const MOST_SCRATCH_COUNTERS: usize = 5000;
@@ -202,6 +204,10 @@ struct Lent {
     counters: usize,
 }
 
+fn at_most(n: usize, most: usize) -> usize {
+    if n < most { n } else { most }
+}
+
 // Draws into the parts that are lent, and answers.
 fn draw_lent(
     mask: &mut [u8],
@@ -275,8 +281,8 @@ fn draw(
     let lent = Lent {
         cells: length,
         words: list.count,
-        floats: floats.value,
-        counters: counters.value,
+        floats: at_most(floats.value, MOST_SCRATCH_FLOATS),
+        counters: at_most(counters.value, MOST_SCRATCH_COUNTERS),
     };
     draw_words(buffer, size, &words, lent)
 }
