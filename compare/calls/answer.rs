@@ -3,7 +3,7 @@ use femtovg::calls::{self, Drawing};
 use std::str::SplitWhitespace;
 
 #[derive(Default)]
-pub struct Session {
+pub struct State {
     run: Vec<u8>,
     next: Vec<u8>,
     drawing: Drawing,
@@ -50,7 +50,7 @@ fn fit(fields: &mut SplitWhitespace) -> String {
     answered(calls::fit(&verbs, &positions), maybe("box"))
 }
 
-impl Session {
+impl State {
     fn buffer(&mut self, fields: &mut SplitWhitespace) -> &mut Vec<u8> {
         match fields.next() {
             Some("run") => &mut self.run,

@@ -31,9 +31,9 @@ fn main() {
     match env::args().nth(1).as_deref() {
         Some("list") => out.write_all(list::list().as_bytes()).expect("written"),
         Some("answer") => {
-            let mut session = answer::Session::default();
+            let mut state = answer::State::default();
             for line in read().lines().filter(|l| !l.trim().is_empty() && !l.starts_with('#')) {
-                writeln!(out, "{}", session.answer(line)).expect("written");
+                writeln!(out, "{}", state.answer(line)).expect("written");
             }
         }
         Some("count") => count(&read()),

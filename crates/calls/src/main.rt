@@ -13,7 +13,7 @@ use input::Input;
 use masks::MOST_BYTES;
 
 // What is kept from line to line, beside the buffers' bytes.
-struct Session {
+struct State {
     at: usize,
     have: usize,
     line: u64,
@@ -28,8 +28,8 @@ fn on_buffer(
     name: Field,
     run: &mut [u8; MOST_BYTES],
     next: &mut [u8; MOST_BYTES],
-    s: Session,
-) -> Session {
+    s: State,
+) -> State {
     let which = fields::next(line, name.end);
     if fields::is(line, which, b"run") {
         let l = masks::answer(line, name, which.end, run, s.run);
@@ -45,9 +45,9 @@ fn on_buffer(
 }
 
 // Says what is wrong, if anything is, and keeps the buffers' lengths.
-fn kept(s: Session, run: usize, next: usize, problem: Problem) -> Session {
+fn kept(s: State, run: usize, next: usize, problem: Problem) -> State {
     answers::tell(s.line, problem);
-    Session {
+    State {
         at: s.at,
         have: s.have,
         line: s.line,
@@ -62,8 +62,8 @@ fn answer(
     line: &[u8; MOST_LINE],
     run: &mut [u8; MOST_BYTES],
     next: &mut [u8; MOST_BYTES],
-    s: Session,
-) -> Session {
+    s: State,
+) -> State {
     let name = fields::next(line, 0);
     if fields::is_empty(name) {
         return s;
@@ -87,8 +87,8 @@ fn turn(
     line: &mut [u8; MOST_LINE],
     run: &mut [u8; MOST_BYTES],
     next: &mut [u8; MOST_BYTES],
-    s: Session,
-) -> Session {
+    s: State,
+) -> State {
     let r = input::read_line(
         chunk,
         line,
@@ -97,7 +97,7 @@ fn turn(
             have: s.have,
         },
     );
-    let now = Session {
+    let now = State {
         at: r.at,
         have: r.have,
         line: one_more(s.line),
@@ -118,7 +118,7 @@ fn answer_all(
     run: &mut [u8; MOST_BYTES],
     next: &mut [u8; MOST_BYTES],
 ) {
-    let mut s = Session {
+    let mut s = State {
         at: 0,
         have: 0,
         line: 0,
