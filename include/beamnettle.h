@@ -26,7 +26,7 @@ enum {
     BEAMNETTLE_NUMBER_OUT_OF_RANGE = 1,     /* a number is not finite, or its size is over 2^20 */
     BEAMNETTLE_IMPROPER_BOX = 2,            /* a half extent or radius below 0, or a radius over its half extent */
     BEAMNETTLE_MASK_TOO_LARGE = 3,          /* a mask width or height over 4,096 */
-    BEAMNETTLE_BUFFER_TOO_SHORT = 4,        /* mask, scratch or lent floats too short */
+    BEAMNETTLE_BUFFER_TOO_SHORT = 4,        /* mask, other mask, scratch or lent floats too short */
     BEAMNETTLE_LIST_ENDS_EARLY = 5,         /* a word list ends inside a group */
     BEAMNETTLE_COUNT_OUT_OF_RANGE = 6,      /* a count word below 0, or points passing 2,048 in the list */
     BEAMNETTLE_COORDINATE_OUT_OF_RANGE = 7, /* a coordinate word beyond +-1,048,576 */
@@ -54,6 +54,14 @@ enum { BEAMNETTLE_BOX = 10, BEAMNETTLE_FRAME = 6, BEAMNETTLE_COVERAGE = 11, BEAM
 uint8_t beamnettle_draw(uint8_t *mask, size_t mask_length, size_t width, size_t height, const int32_t *words,
                         size_t words_length, float *floats, size_t floats_length, uint64_t *counters,
                         size_t counters_length);
+
+/* Lays the other mask on a mask: cell (column, row) meets the other's cell (column + offset_x,
+ * row + offset_y) and becomes (cell * other + 127) / 255, rounded down, or 0 where the other has no such
+ * cell. Later bytes than width * height are not changed, nor is the other mask.
+ * Returns 0, or 3 (either size), then 4 (the mask, then the other). */
+uint8_t beamnettle_lay(uint8_t *mask, size_t mask_length, size_t width, size_t height, const uint8_t *other,
+                       size_t other_length, size_t other_width, size_t other_height, int32_t offset_x,
+                       int32_t offset_y);
 
 /* The box that a straight outline draws. Verbs: 0 move to, 1 line to, 3 solid, 4 hole, 5 close; the
  * first two take a position of two floats each. Writes a box to out.

@@ -25,9 +25,9 @@ use Rattle.beamnettle.specs.Lent.{frameIn, boxIn, coverageIn, boxFloats,
 
 -- ---- an answer's number: 'A call is done, or turned away by number.' Done is 0; "no box", an ordinary outcome of a done call, is 13; yes is 14 and no 15
 
-abbrev pub drawNumber : Outcome → ℕ
-drawNumber drawn.Done = 0
-drawNumber (drawn.Refused f) = numberOf f
+abbrev pub outcomeNumber : Outcome → ℕ
+outcomeNumber drawn.Done = 0
+outcomeNumber (drawn.Refused f) = numberOf f
 
 abbrev pub boxNumber : BoxAnswer → ℕ
 boxNumber (box.Box b) = 0

@@ -3,6 +3,7 @@
 use coverage::Size;
 use geometry::Position;
 use geometry::Transform2D;
+use laying::Offset;
 use mask::Outcome;
 use shape::BoundsAnswer;
 use shape::BoxAnswer;
@@ -14,9 +15,9 @@ use shape::TestAnswer;
 ghost use mathlib.Core.Path.{_≡_};
 ghost use Prim.Native.Nat.{_≤_};
 ghost use lib.ListN.{length};
-ghost use Rattle.mask.specs.Calls.{drawAnswer, maskAfterDrawing, floatsAfterDrawing, countersAfterDrawing};
+ghost use Rattle.mask.specs.Calls.{drawAnswer, maskAfterDrawing, floatsAfterDrawing, countersAfterDrawing, layAnswer, maskAfterLaying};
 ghost use Rattle.beamnettle.specs.Lent.{frameIn, boxIn, coverageIn, over};
-ghost use Rattle.beamnettle.specs.Calls.{drawNumber, boxNumber, coverageNumber, boundsNumber, distanceNumber, testNumber, boxAfter, coverageAfter, boundsAfter, distanceAfter, fitLent, transformedLent, intersectionLent, rectIntersectionLent, coverageLent, boundsLent, distanceLent, parallelLent, containsLent};
+ghost use Rattle.beamnettle.specs.Calls.{outcomeNumber, boxNumber, coverageNumber, boundsNumber, distanceNumber, testNumber, boxAfter, coverageAfter, boundsAfter, distanceAfter, fitLent, transformedLent, intersectionLent, rectIntersectionLent, coverageLent, boundsLent, distanceLent, parallelLent, containsLent};
 
 const DONE: u8 = 0;
 
@@ -39,8 +40,8 @@ const BOUNDS: usize = 4;
 
 // ---- masks
 
-fn draw_number(outcome: Outcome) -> u8
-    ensures { λ r. ⌜ r ≡ drawNumber outcome ⌝ }
+fn outcome_number(outcome: Outcome) -> u8
+    ensures { λ r. ⌜ r ≡ outcomeNumber outcome ⌝ }
 {
     match outcome {
         Outcome::Done => DONE,
@@ -57,13 +58,39 @@ pub extern "C" fn beamnettle_draw(
     floats: &mut [f32],
     counters: &mut [u64],
 ) -> u8
-    ensures number { λ r. ⌜ r ≡ drawNumber (drawAnswer (record { width = width; height = height }) (now (words .entry)) (record { mask = length (now (mask .entry)); floats = length (now (floats .entry)); counters = length (now (counters .entry)) })) ⌝ }
+    ensures number { λ r. ⌜ r ≡ outcomeNumber (drawAnswer (record { width = width; height = height }) (now (words .entry)) (record { mask = length (now (mask .entry)); floats = length (now (floats .entry)); counters = length (now (counters .entry)) })) ⌝ }
     ensures cells { λ _. ⌜ now (mask .exit) ≡ maskAfterDrawing (drawAnswer (record { width = width; height = height }) (now (words .entry)) (record { mask = length (now (mask .entry)); floats = length (now (floats .entry)); counters = length (now (counters .entry)) })) (record { width = width; height = height }) (now (words .entry)) (now (mask .entry)) ⌝ }
     ensures floats { λ _. ⌜ now (floats .exit) ≡ floatsAfterDrawing (drawAnswer (record { width = width; height = height }) (now (words .entry)) (record { mask = length (now (mask .entry)); floats = length (now (floats .entry)); counters = length (now (counters .entry)) })) (now (floats .entry)) ⌝ }
     ensures counters { λ _. ⌜ now (counters .exit) ≡ countersAfterDrawing (drawAnswer (record { width = width; height = height }) (now (words .entry)) (record { mask = length (now (mask .entry)); floats = length (now (floats .entry)); counters = length (now (counters .entry)) })) (now (counters .entry)) ⌝ }
 {
     let size = Size { width, height };
-    draw_number(mask::rasterize_into(mask, size, words, floats, counters))
+    outcome_number(mask::rasterize_into(mask, size, words, floats, counters))
+}
+
+#[no_mangle]
+pub extern "C" fn beamnettle_lay(
+    mask: &mut [u8],
+    width: usize,
+    height: usize,
+    other: &[u8],
+    other_width: usize,
+    other_height: usize,
+    offset_x: i32,
+    offset_y: i32,
+) -> u8
+    ensures number { λ r. ⌜ r ≡ outcomeNumber (layAnswer (record { width = width; height = height }) (record { width = «other_width»; height = «other_height» }) (length (now (mask .entry))) (length (now (other .entry)))) ⌝ }
+    ensures cells { λ _. ⌜ now (mask .exit) ≡ maskAfterLaying (layAnswer (record { width = width; height = height }) (record { width = «other_width»; height = «other_height» }) (length (now (mask .entry))) (length (now (other .entry)))) (record { width = width; height = height }) (record { width = «other_width»; height = «other_height» }) (record { x = «offset_x»; y = «offset_y» }) (now (mask .entry)) (now (other .entry)) ⌝ }
+{
+    let size = Size { width, height };
+    let other_size = Size {
+        width: other_width,
+        height: other_height,
+    };
+    let offset = Offset {
+        x: offset_x,
+        y: offset_y,
+    };
+    outcome_number(mask::intersect(mask, size, other, other_size, offset))
 }
 
 // ---- lent floats

@@ -20,7 +20,7 @@ use Rattle.edge.proofs.Linking.{nexts-same}
 use Rattle.edge.proofs.StartRows.{starts-below}
 use Rattle.coverage.specs.declared.Size.{Size}
 use Rattle.coverage.specs.Drawing.{groupRow}
-use Rattle.coverage.specs.Resolving.{markWords, Room, Clean, Holds, Stored, rowsAdded, edgesRow, edgesRows, Tabled}
+use Rattle.coverage.specs.Resolving.{markWords, Room, Clean, Holds, Stored, rowsChanged, rowsAdded, edgesRow, edgesRows, Tabled}
 use Rattle.coverage.proofs.Rows.{rows-same}
 
 -- where the parts of the scratch stand for a list of so many points
@@ -35,7 +35,7 @@ group-row size g r es rule e f = ap₂ (λ (x : List Edge) (y : Bool). edgesRow 
 
 -- a mask without rows stays as it is
 pub no-rows : (size : Size) (g : Group) (mask : List ℕ) → size .height ≡ 0 → mask ≡ rowsAdded (groupRow size g) (size .width) (size .height) 0 mask
-unfolding rowsAdded
+unfolding rowsChanged
 no-rows size g mask z = ap (λ (n : ℕ). rowsAdded (groupRow size g) (size .width) n 0 mask) (sym z)
 
 module _ (mask : List ℕ) (fs : List Float) (cs : List ℕ) (size : Size) (points count : ℕ) (rule : Bool) (m : Room mask fs cs size points) (c : Clean fs cs (size .width) (size .height)) (few : count ≤ points) where

@@ -5,13 +5,9 @@ use mathlib.Core.List.{List, [], _∷_}
 use lib.Dec.{ltb}
 use lib.IntN.{ℤ, pos, negsuc, _+ℤ_}
 use lib.ListN.{getD}
 use Rattle.coverage.specs.declared.Size.{Size}
 use Rattle.coverage.specs.Drawing.{rowsFrom}
-
--- 'offsets any signed 32-bit numbers'
-pub record Offset : Type 0 where
-  pub x : ℤ
-  pub y : ℤ
+use Rattle.laying.specs.declared.Offset.{Offset}
 
 -- 'It becomes (cell × other + 127) / 255, rounded down'
 abbrev pub laidByte : ℕ → ℕ → ℕ
@@ -23,11 +19,15 @@ metAt size other cell (pos x) (pos y) = cond (ltb x (size .width) && ltb y (size
 metAt size other cell (pos x) (negsuc y) = 0
 metAt size other cell (negsuc x) y = 0
 
--- 'Cell (column, row) meets the other mask at (column + offset x, row + offset y)': n cells of a row, from a column on
+-- 'Cell (column, row) meets the other mask at (column + offset x, row + offset y), offsets any signed 32-bit numbers.'
+abbrev pub laidCell : Size → List ℕ → Offset → ℕ → ℕ → ℕ → ℕ
+laidCell size other offset cell column row = metAt size other cell (pos column +ℤ offset .x) (pos row +ℤ offset .y)
+
+-- n cells of a row, from a column on
 unfoldable pub laidLine : Size → List ℕ → Size → List ℕ → Offset → ℕ → ℕ → ℕ → List ℕ
 laidLine size mask otherSize other offset row zero column = []
 laidLine size mask otherSize other offset row (suc n) column =
-    metAt otherSize other (getD mask (row * size .width + column) 0) (pos column +ℤ offset .x) (pos row +ℤ offset .y) ∷ laidLine size mask otherSize other offset row n (suc column)
+    laidCell otherSize other offset (getD mask (row * size .width + column) 0) column row ∷ laidLine size mask otherSize other offset row n (suc column)
 
 -- the whole mask, rows first
 abbrev pub layingOf : Size → List ℕ → Size → List ℕ → Offset → List ℕ
