@@ -1,6 +1,6 @@
 // What is written: an answer a line.
-use crate::fields::Problem;
 use fault::Fault;
+use fields::Problem;
 use geometry::Bounds;
 use libc::STDOUT_FILENO;
 use mask::Outcome;

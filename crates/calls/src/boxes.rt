@@ -1,11 +1,10 @@
 // The calls on boxes.
 use crate::answers;
-use crate::fields;
-use crate::fields::Field;
-use crate::fields::MOST_FLOATS;
-use crate::fields::MOST_LINE;
-use crate::fields::MOST_VERBS;
-use crate::fields::Problem;
+use fields::Field;
+use fields::MOST_FLOATS;
+use fields::MOST_LINE;
+use fields::MOST_VERBS;
+use fields::Problem;
 use geometry::Position;
 use geometry::Transform2D;
 use shape::ClipCoverage;

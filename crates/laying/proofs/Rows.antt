@@ -150,11 +150,11 @@ module _ (size : Size) (mask : List ℕ) (otherSize : Size) (other : List ℕ) (
       let long : length (change row (line row)) ≡ size .width = row-length otherSize other room offset row (line row) ∙ wide in
       ext-getD 0 (change row (line row)) (laidLine size mask otherSize other offset row (size .width) 0) (long ∙ sym (laid-line-length size mask otherSize other offset row (size .width) 0))
       (λ i g.
-        let b : i < size .width = omega arith in
-        let z : 0 + i ≡ i = omega arith in
-        row-cell otherSize other room offset row (line row) i (omega arith)
-        ∙ rw (getD-take (size .width) (drop (row * size .width) mask) i 0 b, getD-drop (row * size .width) mask i 0) refl
-        ∙ sym (laid-line-get size mask otherSize other offset row (size .width) 0 i b ∙ ap (λ (c : ℕ). met size mask otherSize other offset c row) z))
+      let b : i < size .width = omega arith in
+      let z : 0 + i ≡ i = omega arith in
+      row-cell otherSize other room offset row (line row) i (omega arith)
+      ∙ rw (getD-take (size .width) (drop (row * size .width) mask) i 0 b, getD-drop (row * size .width) mask i 0) refl
+      ∙ sym (laid-line-get size mask otherSize other offset row (size .width) 0 i b ∙ ap (λ (c : ℕ). met size mask otherSize other offset c row) z))
 
   abbrev rows : ℕ → List ℕ
   rows row = laidLine size mask otherSize other offset row (size .width) 0
@@ -200,6 +200,6 @@ module _ (change : ℕ → List ℕ → List ℕ) (width height : ℕ) (mask₀ 
         left ∙ sym len,
         len ∙ s .2,
         s .3 ∙ ap (λ (n : ℕ). take from mask ++ rowsChanged change width n row (drop from mask)) e
-        ∙ row-turn from width mask line room long change (height - (row + 1)) row is
-        ∙ ap (λ (r : ℕ). take (from + width) (take from mask ++ (line ++ drop (from + width - from) (drop from mask))) ++ rowsChanged change width (height - (row + 1)) r (drop (from + width) (take from mask ++ (line ++ drop (from + width - from) (drop from mask))))) (sym (add-one row)),
+            ∙ row-turn from width mask line room long change (height - (row + 1)) row is
+            ∙ ap (λ (r : ℕ). take (from + width) (take from mask ++ (line ++ drop (from + width - from) (drop from mask))) ++ rowsChanged change width (height - (row + 1)) r (drop (from + width) (take from mask ++ (line ++ drop (from + width - from) (drop from mask))))) (sym (add-one row)),
       )

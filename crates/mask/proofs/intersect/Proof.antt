@@ -74,8 +74,7 @@ returns-5 : tie.Need-returns-5
 returns-5 c =
     let args = c .before .before .before .before .before .before .before .before .before .before .before .before .before .before .args in
     let small : tooLarge (args .size) ≡ false = sym (c .before .before .before .before .before .before .before .before .before .before .before .is-too-large .ensures) ∙ c .before .before .before .before .before .before .before .before .before .before .if1 .left in
-    let other-small : tooLarge (args .other-size) ≡ false = sym (c .before .before .before .before .before .before .before .before .before .is-too-large2 .ensures) ∙ c .before .before .before .before .before .before .before .before .if2 .left in
-    (
+    let other-small : tooLarge (args .other-size) ≡ false = sym (c .before .before .before .before .before .before .before .before .before .is-too-large2 .ensures) ∙ c .before .before .before .before .before .before .before .before .if2 .left in (
       laid-done (args .size) (args .other-size) (length (args .mask .now)) (length (args .other .now)) small other-small (omega arith) (omega arith),
       ap (λ (l : List ℕ). l ++ drop (cellsOf (args .size)) (args .mask .now)) (c .before .before .lay .ensures ∙ laying-front (args .size) (args .mask .now) (args .other-size) (args .other .now) (args .offset)),
     )

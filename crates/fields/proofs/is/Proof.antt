@@ -1,29 +1,33 @@
--- `calls::fields::skip_blanks` is safe and ends. The measure is what is left of the longest line. Assumes nothing.
+-- `fields::is` is safe and ends. The measure is what is left of the name. Assumes nothing.
 use borrow.Author.Needs.{needs}
 use Prim.Native.Nat.{_-_}
-use Rattle.calls.proofs.fields.skip_blanks.Statement.{statement}
-use Rattle.calls.proofs.fields.skip_blanks.Tie as tie
+use lib.ListN.{length}
+use Rattle.fields.proofs.is.Statement.{statement}
+use Rattle.fields.proofs.is.Tie as tie
 
 abbrev Inv-loop : tie.InvT-loop
-Inv-loop line from i₀ i = Unit {0}
+Inv-loop line f name at₀ i₀ at i = Unit {0}
 
 abbrev μ-loop : tie.MeasureT-loop
-μ-loop line from i₀ i = 262144 - i
+μ-loop line f name at₀ i₀ at i = length name - i
 
 loop-holds : tie.Need-loop-holds Inv-loop μ-loop
 loop-holds c = search needs
 
-element-copy-out-if1 : tie.Need-element-copy-out-if1 Inv-loop μ-loop
-element-copy-out-if1 c = search needs
-
 returns : tie.Need-returns Inv-loop μ-loop
 returns c = search needs
 
-element-copy-out-if2 : tie.Need-element-copy-out-if2 Inv-loop μ-loop
-element-copy-out-if2 c = search needs
+byte-at-requires : tie.Need-byte-at-requires Inv-loop μ-loop
+byte-at-requires c κs = search needs
+
+shared-slice-read-if2 : tie.Need-shared-slice-read-if2 Inv-loop μ-loop
+shared-slice-read-if2 c = search needs
 
 returns-2 : tie.Need-returns-2 Inv-loop μ-loop
 returns-2 c = search needs
+
+add-at : tie.Need-add-at Inv-loop μ-loop
+add-at c = search needs
 
 add-i : tie.Need-add-i Inv-loop μ-loop
 add-i c = search needs
@@ -37,17 +41,18 @@ loop-again c = search needs
 returns-3 : tie.Need-returns-3 Inv-loop μ-loop
 returns-3 c = search needs
 
-pub skip-blanks-spec : {M : Type 1} → statement M
-skip-blanks-spec =
+pub is-spec : {M : Type 1} → statement M
+is-spec =
     tie.close
     (tie.spec
     Inv-loop
     μ-loop
     loop-holds
-    element-copy-out-if1
     returns
-    element-copy-out-if2
+    byte-at-requires
+    shared-slice-read-if2
     returns-2
+    add-at
     add-i
     loop-less
     loop-again

@@ -1,20 +1,23 @@
--- `calls::fields::field_end` is safe and ends. The measure is what is left of the longest line. Assumes nothing.
+-- `fields::is_hex` is safe and ends. The measure is what is left of the field. Assumes nothing.
 use borrow.Author.Needs.{needs}
 use Prim.Native.Nat.{_-_}
-use Rattle.calls.proofs.fields.field_end.Statement.{statement}
-use Rattle.calls.proofs.fields.field_end.Tie as tie
+use Rattle.fields.proofs.is_hex.Statement.{statement}
+use Rattle.fields.proofs.is_hex.Tie as tie
 
 abbrev Inv-loop : tie.InvT-loop
-Inv-loop line from i₀ i = Unit {0}
+Inv-loop line end i₀ i = Unit {0}
 
 abbrev μ-loop : tie.MeasureT-loop
-μ-loop line from i₀ i = 262144 - i
+μ-loop line end i₀ i = end - i
 
 loop-holds : tie.Need-loop-holds Inv-loop μ-loop
 loop-holds c = search needs
 
-element-copy-out-if1 : tie.Need-element-copy-out-if1 Inv-loop μ-loop
-element-copy-out-if1 c = search needs
+byte-at-requires : tie.Need-byte-at-requires Inv-loop μ-loop
+byte-at-requires c κs = search needs
+
+digit-requires : tie.Need-digit-requires Inv-loop μ-loop
+digit-requires c κs = search needs
 
 returns : tie.Need-returns Inv-loop μ-loop
 returns c = search needs
@@ -31,14 +34,15 @@ loop-again c = search needs
 returns-2 : tie.Need-returns-2 Inv-loop μ-loop
 returns-2 c = search needs
 
-pub field-end-spec : {M : Type 1} → statement M
-field-end-spec =
+pub is-hex-spec : {M : Type 1} → statement M
+is-hex-spec =
     tie.close
     (tie.spec
     Inv-loop
     μ-loop
     loop-holds
-    element-copy-out-if1
+    byte-at-requires
+    digit-requires
     returns
     add-i
     loop-less

@@ -1,9 +1,9 @@
--- `calls::fields::float_of` is safe: a NaN's pattern is left before. Assumes nothing.
+-- `fields::float_of` is safe: a NaN's pattern is left before. Assumes nothing.
 use native.Mathlib.Omega.{arith}
-use Rattle.calls.proofs.Patterns.{no-nan-bits}
+use Rattle.fields.proofs.Patterns.{no-nan-bits}
 use borrow.Author.Needs.{needs}
-use Rattle.calls.proofs.fields.float_of.Statement.{statement}
-use Rattle.calls.proofs.fields.float_of.Tie as tie
+use Rattle.fields.proofs.float_of.Statement.{statement}
+use Rattle.fields.proofs.float_of.Tie as tie
 
 infinity-requires : tie.Need-infinity-requires
 infinity-requires c κs = search needs

@@ -1,23 +1,20 @@
--- `calls::fields::is_hex` is safe and ends. The measure is what is left of the field. Assumes nothing.
+-- `fields::field_end` is safe and ends. The measure is what is left of the longest line. Assumes nothing.
 use borrow.Author.Needs.{needs}
 use Prim.Native.Nat.{_-_}
-use Rattle.calls.proofs.fields.is_hex.Statement.{statement}
-use Rattle.calls.proofs.fields.is_hex.Tie as tie
+use Rattle.fields.proofs.field_end.Statement.{statement}
+use Rattle.fields.proofs.field_end.Tie as tie
 
 abbrev Inv-loop : tie.InvT-loop
-Inv-loop line end i₀ i = Unit {0}
+Inv-loop line from i₀ i = Unit {0}
 
 abbrev μ-loop : tie.MeasureT-loop
-μ-loop line end i₀ i = end - i
+μ-loop line from i₀ i = 262144 - i
 
 loop-holds : tie.Need-loop-holds Inv-loop μ-loop
 loop-holds c = search needs
 
-byte-at-requires : tie.Need-byte-at-requires Inv-loop μ-loop
-byte-at-requires c κs = search needs
-
-digit-requires : tie.Need-digit-requires Inv-loop μ-loop
-digit-requires c κs = search needs
+element-copy-out-if1 : tie.Need-element-copy-out-if1 Inv-loop μ-loop
+element-copy-out-if1 c = search needs
 
 returns : tie.Need-returns Inv-loop μ-loop
 returns c = search needs
@@ -34,15 +31,14 @@ loop-again c = search needs
 returns-2 : tie.Need-returns-2 Inv-loop μ-loop
 returns-2 c = search needs
 
-pub is-hex-spec : {M : Type 1} → statement M
-is-hex-spec =
+pub field-end-spec : {M : Type 1} → statement M
+field-end-spec =
     tie.close
     (tie.spec
     Inv-loop
     μ-loop
     loop-holds
-    byte-at-requires
-    digit-requires
+    element-copy-out-if1
     returns
     add-i
     loop-less

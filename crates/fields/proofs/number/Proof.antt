@@ -1,8 +1,8 @@
--- `calls::fields::number` is safe and ends. The measure is what is left of the field. Assumes nothing.
+-- `fields::number` is safe and ends. The measure is what is left of the field. Assumes nothing.
 use borrow.Author.Needs.{needs}
 use Prim.Native.Nat.{_-_}
-use Rattle.calls.proofs.fields.number.Statement.{statement}
-use Rattle.calls.proofs.fields.number.Tie as tie
+use Rattle.fields.proofs.number.Statement.{statement}
+use Rattle.fields.proofs.number.Tie as tie
 
 abbrev Inv-loop : tie.InvT-loop
 Inv-loop line start end sixteen value₀ i₀ value i = Unit {0}

@@ -1,7 +1,7 @@
--- `calls::fields::verbs` is safe and ends. The measure is the number of turns that are left. Assumes nothing.
+-- `fields::verbs` is safe and ends. The measure is the number of turns that are left. Assumes nothing.
 use borrow.Author.Needs.{needs}
-use Rattle.calls.proofs.fields.verbs.Statement.{statement}
-use Rattle.calls.proofs.fields.verbs.Tie as tie
+use Rattle.fields.proofs.verbs.Statement.{statement}
+use Rattle.fields.proofs.verbs.Tie as tie
 
 abbrev Inv-loop : tie.InvT-loop
 Inv-loop line from wanted out₀ l₀ turns₀ out l turns = Unit {0}

@@ -259,6 +259,30 @@ fn word(line: &[u8; MOST_LINE], f: Field) -> WordField {
     WordField::Bad
 }
 
+// A word, whether there is one, and the place behind it.
+pub struct Signed {
+    pub value: i32,
+    pub good: bool,
+    pub at: usize,
+}
+
+pub fn word_at(line: &[u8; MOST_LINE], from: usize) -> Signed {
+    let f = next(line, from);
+    let end = f.end;
+    match word(line, f) {
+        WordField::Value(value) => Signed {
+            value,
+            good: true,
+            at: end,
+        },
+        WordField::Bad => Signed {
+            value: 0,
+            good: false,
+            at: end,
+        },
+    }
+}
+
 pub enum FloatField {
     Value(f32),
     Bad,
