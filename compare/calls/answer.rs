@@ -10,7 +10,10 @@ pub struct State {
 }
 
 fn number<T: std::str::FromStr>(fields: &mut SplitWhitespace) -> T {
-    fields.next().and_then(|f| f.parse().ok()).expect("a number")
+    fields
+        .next()
+        .and_then(|f| f.parse().ok())
+        .expect("a number")
 }
 
 fn float(field: &str) -> f32 {
@@ -22,11 +25,16 @@ fn floats<const N: usize>(fields: &mut SplitWhitespace) -> [f32; N] {
 }
 
 fn hex(x: f32) -> String {
-    format!(" {:08x}", if x.is_nan() { 0x7fc0_0000 } else { x.to_bits() })
+    format!(
+        " {:08x}",
+        if x.is_nan() { 0x7fc0_0000 } else { x.to_bits() }
+    )
 }
 
 fn named(name: &str, numbers: &[f32]) -> String {
-    numbers.iter().fold(name.to_string(), |text, x| text + &hex(*x))
+    numbers
+        .iter()
+        .fold(name.to_string(), |text, x| text + &hex(*x))
 }
 
 fn answered<T>(answer: Result<T, u8>, text: impl Fn(T) -> String) -> String {
@@ -46,7 +54,9 @@ fn yes(holds: bool) -> String {
 
 fn fit(fields: &mut SplitWhitespace) -> String {
     let verbs: Vec<u8> = (0..number(fields)).map(|_: usize| number(fields)).collect();
-    let positions: Vec<f32> = (0..number(fields)).map(|_: usize| float(fields.next().expect("a float"))).collect();
+    let positions: Vec<f32> = (0..number(fields))
+        .map(|_: usize| float(fields.next().expect("a float")))
+        .collect();
     answered(calls::fit(&verbs, &positions), maybe("box"))
 }
 
@@ -62,7 +72,10 @@ impl State {
     fn set(&mut self, f: &mut SplitWhitespace) -> String {
         let buffer = self.buffer(f);
         let text = f.next().expect("bytes").trim_matches('-');
-        *buffer = (0..text.len()).step_by(2).map(|i| u8::from_str_radix(&text[i..i + 2], 16).expect("a byte")).collect();
+        *buffer = (0..text.len())
+            .step_by(2)
+            .map(|i| u8::from_str_radix(&text[i..i + 2], 16).expect("a byte"))
+            .collect();
         "done".to_string()
     }
 
@@ -87,10 +100,13 @@ impl State {
         let size = [number(f), number(f)];
         let (floats, counters) = (number(f), number(f));
         let words: Vec<i32> = f.map(|w| w.parse().expect("a word")).collect();
-        answered(Drawing::check(size, &words, [buffer.len(), floats, counters]).map(|()| {
-            let cells = drawing.cells(size, words);
-            buffer[..cells.len()].copy_from_slice(cells);
-        }), |()| "done".to_string())
+        answered(
+            Drawing::check(size, &words, [buffer.len(), floats, counters]).map(|()| {
+                let cells = drawing.cells(size, words);
+                buffer[..cells.len()].copy_from_slice(cells);
+            }),
+            |()| "done".to_string(),
+        )
     }
 
     pub fn answer(&mut self, line: &str) -> String {
@@ -102,14 +118,23 @@ impl State {
             "show" => self.show(f),
             "draw" => self.draw(f),
             "fit" => fit(f),
-            "transformed" => answered(calls::transformed(floats(f), floats(f)), |b| named("box", &b)),
-            "intersection" => answered(calls::intersection(floats(f), floats(f), floats::<1>(f)[0]), maybe("box")),
-            "rect_intersection" => answered(calls::rect_intersection(floats(f), floats(f)), maybe("box")),
+            "transformed" => answered(calls::transformed(floats(f), floats(f)), |b| {
+                named("box", &b)
+            }),
+            "intersection" => answered(
+                calls::intersection(floats(f), floats(f), floats::<1>(f)[0]),
+                maybe("box"),
+            ),
+            "rect_intersection" => {
+                answered(calls::rect_intersection(floats(f), floats(f)), maybe("box"))
+            }
             "coverage" => answered(calls::coverage(floats(f), floats::<1>(f)[0]), maybe("cov")),
             "parallel" => answered(calls::parallel(floats(f), floats(f)), yes),
             "contains" => answered(calls::contains(floats(f), floats(f)), yes),
             "bounds" => answered(calls::bounds(floats(f)), |b| named("bounds", &b)),
-            "distance" => answered(calls::distance(floats(f), floats(f)), |d| named("float", &[d])),
+            "distance" => answered(calls::distance(floats(f), floats(f)), |d| {
+                named("float", &[d])
+            }),
             name => panic!("no call {name}"),
         }
     }

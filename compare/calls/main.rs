@@ -11,13 +11,19 @@ use std::{
 
 fn read() -> String {
     let mut text = String::new();
-    io::stdin().read_to_string(&mut text).expect("a list of calls");
+    io::stdin()
+        .read_to_string(&mut text)
+        .expect("a list of calls");
     text
 }
 
 fn count(text: &str) {
     let mut kinds = BTreeMap::new();
-    for name in text.lines().filter(|l| !l.starts_with('#')).filter_map(|l| l.split_whitespace().next()) {
+    for name in text
+        .lines()
+        .filter(|l| !l.starts_with('#'))
+        .filter_map(|l| l.split_whitespace().next())
+    {
         *kinds.entry(name).or_insert(0) += 1;
     }
     for (name, n) in &kinds {
@@ -32,7 +38,10 @@ fn main() {
         Some("list") => out.write_all(list::list().as_bytes()).expect("written"),
         Some("answer") => {
             let mut state = answer::State::default();
-            for line in read().lines().filter(|l| !l.trim().is_empty() && !l.starts_with('#')) {
+            for line in read()
+                .lines()
+                .filter(|l| !l.trim().is_empty() && !l.starts_with('#'))
+            {
                 writeln!(out, "{}", state.answer(line)).expect("written");
             }
         }

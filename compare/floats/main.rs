@@ -39,11 +39,19 @@ fn same64(a: f64, b: f64) -> bool {
 
 // The meanings of document 01 that Rust has no operation for.
 fn larger(x: f32, y: f32) -> f32 {
-    if x.is_nan() || y > x { y } else { x }
+    if x.is_nan() || y > x {
+        y
+    } else {
+        x
+    }
 }
 
 fn smaller(x: f32, y: f32) -> f32 {
-    if x.is_nan() || y < x { y } else { x }
+    if x.is_nan() || y < x {
+        y
+    } else {
+        x
+    }
 }
 
 fn two_step_hypot(x: f32, y: f32) -> f32 {
@@ -106,7 +114,10 @@ impl Report {
             }
         });
         let differ = differ.into_inner();
-        println!("{name:<12}{count:>12}{:>10.1}", began.elapsed().as_secs_f64());
+        println!(
+            "{name:<12}{count:>12}{:>10.1}",
+            began.elapsed().as_secs_f64()
+        );
         self.compared += count;
         self.differ += differ;
     }
@@ -128,7 +139,13 @@ fn main() {
     } else {
         (1 << 22, 1 << 20, 1 << 16)
     };
-    let x = |i: u64| if long { f32::from_bits(i as u32) } else { single(i) };
+    let x = |i: u64| {
+        if long {
+            f32::from_bits(i as u32)
+        } else {
+            single(i)
+        }
+    };
     let show1 = |i: u64| format!("{:#010x}", x(i).to_bits());
     let show2 = |i: u64| {
         let (x, y) = pair(i);
@@ -138,26 +155,74 @@ fn main() {
     let whole = |i: u64| if long { i as usize } else { (i as usize) * 257 };
 
     println!("{:<12}{:>12}{:>10}", "function", "compared", "seconds");
-    let mut r = Report { compared: 0, differ: 0 };
+    let mut r = Report {
+        compared: 0,
+        differ: 0,
+    };
     unsafe {
-        r.run("abs", ones, |i| same32(beamnettle_float_abs(x(i)), x(i).abs()), show1);
-        r.run("signum", ones, |i| same32(beamnettle_float_signum(x(i)), x(i).signum()), show1);
-        r.run("is_finite", ones, |i| beamnettle_float_is_finite(x(i)) == x(i).is_finite(), show1);
-        r.run("floor", ones, |i| same32(beamnettle_float_floor(x(i)), x(i).floor()), show1);
-        r.run("ceil", ones, |i| same32(beamnettle_float_ceil(x(i)), x(i).ceil()), show1);
-        r.run("sqrt", ones, |i| same32(beamnettle_float_sqrt(x(i)), x(i).sqrt()), show1);
-        r.run("widen", ones, |i| same64(beamnettle_float_widen(x(i)), x(i) as f64), show1);
+        r.run(
+            "abs",
+            ones,
+            |i| same32(beamnettle_float_abs(x(i)), x(i).abs()),
+            show1,
+        );
+        r.run(
+            "signum",
+            ones,
+            |i| same32(beamnettle_float_signum(x(i)), x(i).signum()),
+            show1,
+        );
+        r.run(
+            "is_finite",
+            ones,
+            |i| beamnettle_float_is_finite(x(i)) == x(i).is_finite(),
+            show1,
+        );
+        r.run(
+            "floor",
+            ones,
+            |i| same32(beamnettle_float_floor(x(i)), x(i).floor()),
+            show1,
+        );
+        r.run(
+            "ceil",
+            ones,
+            |i| same32(beamnettle_float_ceil(x(i)), x(i).ceil()),
+            show1,
+        );
+        r.run(
+            "sqrt",
+            ones,
+            |i| same32(beamnettle_float_sqrt(x(i)), x(i).sqrt()),
+            show1,
+        );
+        r.run(
+            "widen",
+            ones,
+            |i| same64(beamnettle_float_widen(x(i)), x(i) as f64),
+            show1,
+        );
         r.run(
             "to_column",
             ones,
             |i| beamnettle_float_to_column(x(i)) == (x(i) as usize).min(8191),
             show1,
         );
-        r.run("to_byte", ones, |i| beamnettle_float_to_byte(x(i)) == x(i) as u8, show1);
+        r.run(
+            "to_byte",
+            ones,
+            |i| beamnettle_float_to_byte(x(i)) == x(i) as u8,
+            show1,
+        );
         r.run(
             "from_whole",
             wholes,
-            |i| same32(beamnettle_float_from_whole(whole(i)), whole(i).min(1 << 24) as f32),
+            |i| {
+                same32(
+                    beamnettle_float_from_whole(whole(i)),
+                    whole(i).min(1 << 24) as f32,
+                )
+            },
             |i| format!("{:#x}", whole(i)),
         );
         r.run(
