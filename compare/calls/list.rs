@@ -1,12 +1,13 @@
 //! The fixed list of calls: document 01's examples, each refusal at its boundary and one step
 //! inside it, known corners, and random calls from a fixed seed.
+use crate::chains::{chains, layings, offsets};
 use std::fmt::Write;
 
 const LARGEST: f32 = 1_048_576.0;
 const UNIT: [f32; 6] = [1.0, 0.0, 0.0, 1.0, 0.0, 0.0];
 const VERBS: [u8; 5] = [0, 1, 1, 1, 5];
 
-struct Random(u64);
+pub struct Random(pub u64);
 
 impl Random {
     fn next(&mut self) -> u64 {
@@ -16,11 +17,11 @@ impl Random {
         self.0 >> 11
     }
 
-    fn below(&mut self, n: u64) -> u64 {
+    pub fn below(&mut self, n: u64) -> u64 {
         self.next() % n
     }
 
-    fn between(&mut self, low: i32, high: i32) -> i32 {
+    pub fn between(&mut self, low: i32, high: i32) -> i32 {
         low + self.below((high - low + 1) as u64) as i32
     }
 
@@ -83,7 +84,7 @@ impl Random {
         }
     }
 
-    fn words(&mut self, width: u64, height: u64) -> Vec<i32> {
+    pub fn words(&mut self, width: u64, height: u64) -> Vec<i32> {
         let mut words = vec![];
         for _ in 0..self.below(3) + self.below(2) {
             let contours = self.below(4);
@@ -104,10 +105,10 @@ impl Random {
 }
 
 #[derive(Default)]
-struct List(String);
+pub struct List(String);
 
 impl List {
-    fn line(&mut self, text: &str) {
+    pub fn line(&mut self, text: &str) {
         self.0.push_str(text);
         self.0.push('\n');
     }
@@ -145,6 +146,27 @@ impl List {
             "draw {name} {width} {height} {floats} {counters}{words}"
         ));
         self.line(&format!("show {name}"));
+    }
+
+    pub fn lay(&mut self, sizes: [[usize; 2]; 2], offset: [i32; 2]) {
+        let [[width, height], [other_width, other_height]] = sizes;
+        let [x, y] = offset;
+        self.line(&format!(
+            "lay {width} {height} {other_width} {other_height} {x} {y}"
+        ));
+    }
+
+    pub fn bytes(&mut self, name: &str, bytes: &[u8]) {
+        let hex: String = bytes.iter().map(|byte| format!("{byte:02x}")).collect();
+        self.line(&format!("buf {name} {hex}"));
+    }
+
+    /// A row laid on a row, and what comes of it.
+    pub fn lay_rows(&mut self, run: &[u8], next: &[u8], offset: [i32; 2]) {
+        self.bytes("run", run);
+        self.bytes("next", next);
+        self.lay([[run.len(), 1], [next.len(), 1]], offset);
+        self.line("show run");
     }
 
     fn small(&mut self, words: &[i32]) {
@@ -196,6 +218,12 @@ fn examples(l: &mut List) {
     l.draw("run", [2, 1], &points(2048), 2048, [1, 0, 0]);
     l.draw("run", [2, 1], &points(2049), 2049, [1, 0, 0]);
     l.small(&[0]);
+    for (cell, by) in [(128, 128), (1, 127), (1, 128)] {
+        l.lay_rows(&[cell], &[by], [0, 0]);
+    }
+    for offset in [[1, 0], [-1, 0], [0, 1]] {
+        l.lay_rows(&[10, 20, 30], &[255, 255], offset);
+    }
     l.fit(&VERBS, &[0.0, 0.0, 4.0, 0.0, 4.0, 2.0, 0.0, 2.0]);
     l.fit(&[0, 5, 0, 1], &[0.0, 0.0, 0.0, 0.0, 4.0, 0.0]);
     for (extent, radii) in [
@@ -504,10 +532,65 @@ fn random(l: &mut List) {
     }
 }
 
+fn bad_lines(l: &mut List) {
+    l.line("# bad lines, each of which changes nothing");
+    l.line("bufn run 2 7");
+    l.line("bufn next 2 9");
+    for line in [
+        "bend",
+        "Buf run 00",
+        "buf",
+        "buf last 00",
+        "buf run",
+        "buf run 0",
+        "buf run 0g",
+        "buf run 00 00",
+        "buf run - -",
+        "bufn next 2",
+        "bufn next -1 0",
+        "bufn next 65537 0",
+        "bufn next 2 256",
+        "bufn next 2 2 2",
+        "bufn next 2 x",
+        "show",
+        "show run next",
+        "draw run 1 1 1",
+        "draw run 1 1 1 99999999999",
+        "draw run 1 1 20 9 0 2147483648",
+        "draw run 1 1 20 9 0 -2147483649",
+        "draw run 1 1 20 9 0 one",
+        "draw mask 1 1 20 9",
+        "lay 1 1 1 1 0",
+        "lay 1 1 1 1 0 0 0",
+        "lay run 1 1 1 1 0 0",
+        "lay 1 1 1 1 2147483648 0",
+        "lay 1 1 1 1 0 -2147483649",
+        "lay -1 1 1 1 0 0",
+        "lay 1 1 1 99999999999 0 0",
+        "fit 1",
+        "fit 1 256 0",
+        "fit 2 0",
+        "fit 513",
+        "fit 0 2049",
+        "fit 1 0 2 00000000",
+        "fit 1 0 0 00000000",
+        "bounds",
+        "bounds 3f800000 00000000 00000000 3f800000 00000000 00000000 40000000 3f800000 00000000",
+        "bounds 3f800000 00000000 00000000 3f800000 00000000 00000000 40000000 3f800000 00000000 0",
+        "bounds 3f800000 00000000 00000000 3f800000 00000000 00000000 40000000 3f800000 00000000 0000000g",
+        "bounds 3f800000 00000000 00000000 3f800000 00000000 00000000 40000000 3f800000 00000000 00000000 0",
+    ] {
+        l.line(line);
+    }
+    l.line("show run");
+    l.line("show next");
+}
+
 pub fn list() -> String {
     let mut list = List::default();
     for part in [
-        examples, numbers, improper, masks, outlines, corners, random,
+        examples, numbers, improper, masks, layings, offsets, outlines, corners, random, chains,
+        bad_lines,
     ] {
         part(&mut list);
     }
