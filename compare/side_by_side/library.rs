@@ -21,6 +21,18 @@ mod c {
             counters: *mut u64,
             counters_length: usize,
         ) -> u8;
+        pub fn beamnettle_lay(
+            mask: *mut u8,
+            mask_length: usize,
+            width: usize,
+            height: usize,
+            other: *const u8,
+            other_length: usize,
+            other_width: usize,
+            other_height: usize,
+            offset_x: i32,
+            offset_y: i32,
+        ) -> u8;
         pub fn beamnettle_fit(
             verbs: *const u8,
             verbs_length: usize,
@@ -112,6 +124,29 @@ pub fn draw(
             floats.len(),
             counters.as_mut_ptr(),
             counters.len(),
+        )
+    }
+}
+
+pub fn lay(
+    mask: &mut [u8],
+    size: [usize; 2],
+    other: &[u8],
+    other_size: [usize; 2],
+    offset: [i32; 2],
+) -> u8 {
+    unsafe {
+        c::beamnettle_lay(
+            mask.as_mut_ptr(),
+            mask.len(),
+            size[0],
+            size[1],
+            other.as_ptr(),
+            other.len(),
+            other_size[0],
+            other_size[1],
+            offset[0],
+            offset[1],
         )
     }
 }
