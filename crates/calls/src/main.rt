@@ -1,6 +1,4 @@
 // Reads a list of calls, one a line, and writes an answer a line: README.md, 'A list of calls'.
-mod answers;
-mod boxes;
 mod input;
 mod masks;
 
@@ -77,7 +75,7 @@ fn answer(
         let problem = masks::lay(line, name.end, run, s.run, next, s.next);
         return kept(s, s.run, s.next, problem);
     }
-    kept(s, s.run, s.next, boxes::answer(line, name))
+    kept(s, s.run, s.next, box_calls::answer(line, name))
 }
 
 fn one_more(n: u64) -> u64 {

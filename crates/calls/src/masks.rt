@@ -1,5 +1,4 @@
 // The calls on a mask buffer.
-use crate::answers;
 use coverage::Size;
 use fields::Field;
 use fields::MOST_LINE;

@@ -1,5 +1,4 @@
 // The calls on boxes.
-use crate::answers;
 use fields::Field;
 use fields::MOST_FLOATS;
 use fields::MOST_LINE;

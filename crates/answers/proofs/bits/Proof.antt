@@ -1,10 +1,10 @@
--- `calls::answers::bits` is safe: a finite float has bits. Assumes nothing.
+-- `answers::bits` is safe: a finite float has bits. Assumes nothing.
 use mathlib.Core.Path.{sym, _∙_}
 use borrow.Author.Needs.{needs}
 use Rattle.float.proofs.Fields.{number-no-nan}
 use Rattle.float.proofs.Tests.{holds}
-use Rattle.calls.proofs.answers.bits.Statement.{statement}
-use Rattle.calls.proofs.answers.bits.Tie as tie
+use Rattle.answers.proofs.bits.Statement.{statement}
+use Rattle.answers.proofs.bits.Tie as tie
 
 is-finite-requires : tie.Need-is-finite-requires
 is-finite-requires c κs = search needs

@@ -1,10 +1,10 @@
--- `calls::boxes::fit_lent` is safe: each part that it lends is within its list. Assumes nothing.
+-- `box_calls::fit_lent` is safe: each part that it lends is within its list. Assumes nothing.
 use mathlib.Core.Path.{sym}
 use native.Mathlib.Omega.{arith}
 use lib.Seq.{length-take-le}
 use borrow.Author.Needs.{needs}
-use Rattle.calls.proofs.boxes.fit_lent.Statement.{statement}
-use Rattle.calls.proofs.boxes.fit_lent.Tie as tie
+use Rattle.box_calls.proofs.fit_lent.Statement.{statement}
+use Rattle.box_calls.proofs.fit_lent.Tie as tie
 
 returns : tie.Need-returns
 returns c = search needs
