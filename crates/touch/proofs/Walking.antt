@@ -20,7 +20,7 @@ use Rattle.shape.specs.Checks.{boxCheckOf, fringeCheckOf, pointCheckOf, _andThe
 use Rattle.shape.specs.Coverage.{touchesOf}
 use Rattle.touch.specs.declared.TouchAnswer.{TouchAnswer}
 use Rattle.touch.specs.declared.TouchAnswer.the-variants.{Frame, NoFrame, Refused}
-use Rattle.touch.specs.Touch.{countCheckOf, boxesCheckOf, touchCheckOf, touchesAt, FoundRule, RuleUnless, TouchRule}
+use Rattle.touch.specs.Touch.{countCheckOf, boxesCheckOf, touchesAt, FoundRule, RuleUnless, TouchRule}
 use Rattle.touch.specs.Walk.{unless, startOf, refusalOf, passes, orElse, stepOf, finishOf}
 
 -- what `getD` gives past the end: the walk never asks there
@@ -32,7 +32,7 @@ below : (k i : ℕ) (t : Bool) → ltb k i ≡ t → (k < i) ⊎ (i ≤ k)
 below k i true e = inl (ltb-true k i e)
 below k i false e = inr (ltb-false k i e)
 
-below-or-not : (k i : ℕ) → (k < i) ⊎ (i ≤ k)
+pub below-or-not : (k i : ℕ) → (k < i) ⊎ (i ≤ k)
 below-or-not k i = below k i (ltb k i) refl
 
 touches-at : (bs : List RoundedBox) (fringe : Float) (p : Position) (i : ℕ) → i < length bs → touchesAt bs fringe p i ≡ touchesOf (getD bs i noBox) fringe p
