@@ -3,7 +3,8 @@
 // `touch` is one thin walk over the lent boxes. The borrow checker covers no function over a slice
 // of structs, so the walk alone is proved by hand (proofs/touch); what it starts from, its test, its
 // step and its end are functions that take what they need by value, which are covered.
-ghost use Prim.Native.Nat.{_<_};
+ghost use Prim.Native.Nat.{_<_, _≤_};
+ghost use lib.ListN.{take};
 ghost use mathlib.Core.Path.{_≡_};
 ghost use Rattle.touch.specs.Touch.{pointOf, TouchRule};
 ghost use Rattle.touch.specs.Walk.{startOf, refusalOf, goesOn, stepOf, finishOf};
@@ -105,4 +106,13 @@ pub fn touch(boxes: &[RoundedBox], fringe: f32, x: f32, y: f32) -> TouchAnswer
         i = i + 1;
     }
     answer.finish(fringe, x, y)
+}
+
+// The same for the first n boxes of an array, which its callers fill by value: they need no walk of
+// their own. 257 boxes are enough to be refused for their number.
+pub fn touch_few(boxes: [RoundedBox; 257], n: usize, fringe: f32, x: f32, y: f32) -> TouchAnswer
+    requires { ⌜ n ≤ 257 ⌝ }
+    ensures { λ r. ⌜ TouchRule (take n boxes) fringe (pointOf x y) r ⌝ }
+{
+    touch(&boxes[..n], fringe, x, y)
 }
