@@ -1,8 +1,8 @@
 // Touch: which frame of a list lies under a point. Added to femtovg's calls by document 01.
 //
-// `touch` is one thin walk over the lent boxes. The borrow checker covers no function over a slice
-// of structs, so the walk alone is proved by hand (proofs/touch); what it starts from, its test, its
-// step and its end are functions that take what they need by value, which are covered.
+// `touch` is one thin walk over the lent boxes. The borrow checker covers no function with a slice of
+// structs, so `touch` and `touch_few` are proved by hand. What the walk starts from, its test, its
+// step and its end are functions that take what they need by value, and those are covered.
 ghost use Prim.Native.Nat.{_<_, _≤_};
 ghost use lib.ListN.{take};
 ghost use mathlib.Core.Path.{_≡_};
