@@ -1,3 +1,3 @@
 pub mod Walking
 pub mod Laws
-pub mod Values
+pub mod Steps
