@@ -62,6 +62,7 @@ module _ (bs : List RoundedBox) (fringe : Float) (p : Position) where
   abbrev LeftFrom : ℕ → Type 0
   LeftFrom i = listCheck ≡ boxesCheckOf (drop i bs)
 
+  -- what holds of the answer before place i: the loop's invariant
   abbrev pub SoFar : ℕ → TouchAnswer → Type 0
   SoFar i (Frame k) = LeftFrom i × (touchesAt bs fringe p k ≡ true)
   SoFar i NoFrame = LeftFrom i × ((k : ℕ) → k < i → touchesAt bs fringe p k ≡ false)
