@@ -38,12 +38,22 @@ enum {
     /* done, and: */
     BEAMNETTLE_NONE = 13, /* there is no box, or no coverage */
     BEAMNETTLE_YES = 14,
-    BEAMNETTLE_NO = 15
+    BEAMNETTLE_NO = 15,
+    /* beamnettle_touch alone: */
+    BEAMNETTLE_NO_FRAME = 16,
+    BEAMNETTLE_FIRST_PLACE = 256 /* the box at place k, counted from 0, is 256 + k */
 };
 
 /* How many floats there are in a box (frame a b c d x y, half extents, radii), a frame, a coverage
  * (linear part by rows, offset, half extents, radii, strays) and bounds (least x, least y, most x, most y). */
 enum { BEAMNETTLE_BOX = 10, BEAMNETTLE_FRAME = 6, BEAMNETTLE_COVERAGE = 11, BEAMNETTLE_BOUNDS = 4 };
+
+/* A box of a touch list: the same ten floats, in the same order. */
+struct beamnettle_box {
+    float a, b, c, d, x, y;
+    float extent_x, extent_y;
+    float radius_x, radius_y;
+};
 
 /* Draws a word list into the first width * height bytes of a mask, rows first; later bytes are not
  * changed. A group is a rule word (0 non-zero, else even-odd), a count of contours, then per contour a
@@ -100,6 +110,12 @@ uint8_t beamnettle_parallel(const float *one, size_t one_length, const float *tw
 
 /* Whether a coverage, of any floats, holds all of a box. Returns 14 or 15, or 1 or 2. */
 uint8_t beamnettle_contains(const float *coverage, size_t coverage_length, const float *box, size_t box_length);
+
+/* The place of some box that a point touches: one whose coverage exists and whose distance at the point is
+ * at most 0. At most 256 boxes are taken.
+ * Returns 256 + the place, counted from 0; 16 where there is no such box; or 12, then 1 or 2 for each box in
+ * order, then 1 for the fringe or the point. */
+uint32_t beamnettle_touch(const struct beamnettle_box *boxes, size_t boxes_length, float fringe, float x, float y);
 
 #ifdef __cplusplus
 }

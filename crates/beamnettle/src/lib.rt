@@ -12,12 +12,14 @@ use shape::CoverageAnswer;
 use shape::DistanceAnswer;
 use shape::RoundedBox;
 use shape::TestAnswer;
+use touch::TouchAnswer;
 ghost use mathlib.Core.Path.{_≡_};
 ghost use Prim.Native.Nat.{_≤_};
 ghost use lib.ListN.{length};
 ghost use Rattle.mask.specs.Calls.{drawAnswer, maskAfterDrawing, floatsAfterDrawing, countersAfterDrawing, layAnswer, maskAfterLaying};
+ghost use Rattle.touch.specs.Touch.{pointOf};
 ghost use Rattle.beamnettle.specs.Lent.{frameIn, boxIn, coverageIn, over};
-ghost use Rattle.beamnettle.specs.Calls.{outcomeNumber, boxNumber, coverageNumber, boundsNumber, distanceNumber, testNumber, boxAfter, coverageAfter, boundsAfter, distanceAfter, fitLent, transformedLent, intersectionLent, rectIntersectionLent, coverageLent, boundsLent, distanceLent, parallelLent, containsLent};
+ghost use Rattle.beamnettle.specs.Calls.{outcomeNumber, boxNumber, coverageNumber, boundsNumber, distanceNumber, testNumber, touchNumber, TouchNumber, boxAfter, coverageAfter, boundsAfter, distanceAfter, fitLent, transformedLent, intersectionLent, rectIntersectionLent, coverageLent, boundsLent, distanceLent, parallelLent, containsLent};
 
 const DONE: u8 = 0;
 
@@ -28,6 +30,10 @@ const NONE: u8 = 13;
 const YES: u8 = 14;
 
 const NO: u8 = 15;
+
+const NO_FRAME: u32 = 16;
+// A place is answered above all other numbers.
+const FIRST_PLACE: u32 = 256;
 
 // How many floats a box, a frame, a coverage and bounds take.
 const BOX: usize = 10;
@@ -379,4 +385,24 @@ pub extern "C" fn beamnettle_contains(k: &[f32], b: &[f32]) -> u8
         return TOO_SHORT;
     }
     test_number(coverage_in(k).contains(box_in(b)))
+}
+
+// ---- the touch list
+
+fn touch_number(answer: TouchAnswer) -> u32
+    ensures { λ r. ⌜ r ≡ touchNumber answer ⌝ }
+{
+    match answer {
+        TouchAnswer::Frame(k) => FIRST_PLACE + k as u32,
+        TouchAnswer::NoFrame => NO_FRAME,
+        TouchAnswer::Refused(fault) => fault.number() as u32,
+    }
+}
+
+// Proved by hand, as `touch::touch` is: the borrow checker covers no function with a slice of structs.
+#[no_mangle]
+pub extern "C" fn beamnettle_touch(boxes: &[RoundedBox], fringe: f32, x: f32, y: f32) -> u32
+    ensures { λ r. ⌜ TouchNumber (now (boxes .entry)) fringe (pointOf x y) r ⌝ }
+{
+    touch_number(touch::touch(boxes, fringe, x, y))
 }

@@ -15,6 +15,7 @@ use geometry::Position;
 use geometry::Transform2D;
 
 // A box with elliptical corners: zero radii make a rectangle, radii equal to the extent an ellipse.
+#[repr(C)]
 pub struct RoundedBox {
     // maps the box, centred on the origin with its sides along the axes, to where its outline lies
     pub frame: Transform2D,
