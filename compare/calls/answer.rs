@@ -21,8 +21,9 @@ const NOT_A_FLOAT: Bad = "a float is not written as eight hexadecimal digits";
 const NOT_HEX: Bad = "the bytes are not written as pairs of hexadecimal digits";
 const NOT_A_BYTE: Bad = "a verb or a byte is not a decimal number up to 255";
 const BUFFER_TOO_LONG: Bad = "a buffer has at most 65,536 bytes";
-const TOO_MANY_FLOATS: Bad = "an outline's line takes at most 2,048 floats";
+const TOO_MANY_FLOATS: Bad = "a line takes at most 2,573 floats";
 const TOO_MANY_VERBS: Bad = "an outline's line takes at most 512 verbs";
+const TOO_MANY_BOXES: Bad = "a touch list's line takes at most 257 boxes";
 
 /// The largest number that the program reads.
 pub const LARGEST: usize = 2_684_354_559;
@@ -106,7 +107,7 @@ fn fit(f: &mut Fields) -> Result<String, Bad> {
         .map(|_| verb(f))
         .collect::<Result<Vec<u8>, _>>()?;
     let count = number(f)?;
-    if count > 2048 {
+    if count > 2573 {
         return Err(TOO_MANY_FLOATS);
     }
     let positions = (0..count)
@@ -114,6 +115,23 @@ fn fit(f: &mut Fields) -> Result<String, Bad> {
         .collect::<Result<Vec<f32>, _>>()?;
     ended(f)?;
     Ok(answered(calls::fit(&verbs, &positions), maybe("box")))
+}
+
+/// The first place is answered: document 01 leaves free which, and the program answers the first.
+fn touch(f: &mut Fields) -> Result<String, Bad> {
+    let count = number(f)?;
+    if count > 257 {
+        return Err(TOO_MANY_BOXES);
+    }
+    let boxes = (0..count)
+        .map(|_| floats(f))
+        .collect::<Result<Vec<[f32; 10]>, _>>()?;
+    let (fringe, point) = (float(f)?, floats(f)?);
+    ended(f)?;
+    Ok(answered(calls::touch(&boxes, fringe, point), |places| {
+        let place = places.first();
+        place.map_or("noframe".to_string(), |place| format!("frame {place}"))
+    }))
 }
 
 /// The answer to a call on boxes; its fields are read whole before it.
@@ -226,6 +244,7 @@ impl State {
             "draw" => self.draw(f),
             "lay" => self.lay(f),
             "fit" => fit(f),
+            "touch" => touch(f),
             name => on_boxes(name, f),
         }
     }

@@ -1,6 +1,9 @@
 //! The fixed list of calls: document 01's examples, each refusal at its boundary and one step
 //! inside it, known corners, and random calls from a fixed seed.
-use crate::chains::{chains, layings, offsets};
+use crate::{
+    chains::{chains, layings, offsets},
+    touches::touches,
+};
 use std::fmt::Write;
 
 const LARGEST: f32 = 1_048_576.0;
@@ -26,7 +29,7 @@ impl Random {
     }
 
     /// A float between two, on a coarse grid or a fine one.
-    fn float(&mut self, low: f32, high: f32) -> f32 {
+    pub fn float(&mut self, low: f32, high: f32) -> f32 {
         if self.below(2) == 0 {
             return (low + (high - low) * self.below(65) as f32 / 64.0).floor();
         }
@@ -46,7 +49,7 @@ impl Random {
         }
     }
 
-    fn boxed(&mut self) -> [f32; 10] {
+    pub fn boxed(&mut self) -> [f32; 10] {
         let f = self.frame();
         let (w, h) = (self.float(0.0, 20.0), self.float(0.0, 20.0));
         let part = [0.0, 0.0, 0.25, 1.0][self.below(4) as usize];
@@ -113,7 +116,7 @@ impl List {
         self.0.push('\n');
     }
 
-    fn call(&mut self, name: &str, floats: &[f32]) {
+    pub fn call(&mut self, name: &str, floats: &[f32]) {
         let text = floats.iter().fold(name.to_string(), |text, x| {
             format!("{text} {:08x}", x.to_bits())
         });
@@ -174,7 +177,7 @@ impl List {
     }
 }
 
-fn up(x: f32) -> f32 {
+pub fn up(x: f32) -> f32 {
     f32::from_bits(x.to_bits() + 1)
 }
 
@@ -188,7 +191,7 @@ fn group(rule: i32, contours: &[Vec<i32>]) -> Vec<i32> {
     words
 }
 
-fn upright(x: f32, y: f32, extent: [f32; 2], radii: [f32; 2]) -> [f32; 10] {
+pub fn upright(x: f32, y: f32, extent: [f32; 2], radii: [f32; 2]) -> [f32; 10] {
     [
         1.0, 0.0, 0.0, 1.0, x, y, extent[0], extent[1], radii[0], radii[1],
     ]
@@ -256,6 +259,7 @@ fn numbers(l: &mut List) {
         ("contains", [&c[..], &b].concat()),
         ("bounds", b.to_vec()),
         ("distance", [&c[..], &[1.0, 1.0]].concat()),
+        ("touch 1", [&b[..], &[1.0, 1.0, 1.0]].concat()),
     ];
     l.line("# numbers 1 and 2, at every place of every call on boxes");
     for (name, floats) in calls {
@@ -571,9 +575,19 @@ fn bad_lines(l: &mut List) {
         "fit 1 256 0",
         "fit 2 0",
         "fit 513",
-        "fit 0 2049",
+        "fit 0 2574",
         "fit 1 0 2 00000000",
         "fit 1 0 0 00000000",
+        "touch",
+        "touch -1 3f800000 00000000 00000000",
+        "touch 0",
+        "touch 0 3f800000 00000000",
+        "touch 0 3f800000 00000000 zero0000",
+        "touch 0 3f800000 00000000 00000000 00000000",
+        "touch 1 3f800000 00000000 00000000 3f800000 00000000 00000000 40000000 3f800000 00000000",
+        "touch 1 3f800000 00000000 00000000 3f800000 00000000 00000000 40000000 3f800000 00000000 00000000",
+        "touch 258",
+        "touch 99999999999",
         "bounds",
         "bounds 3f800000 00000000 00000000 3f800000 00000000 00000000 40000000 3f800000 00000000",
         "bounds 3f800000 00000000 00000000 3f800000 00000000 00000000 40000000 3f800000 00000000 0",
@@ -590,7 +604,7 @@ pub fn list() -> String {
     let mut list = List::default();
     for part in [
         examples, numbers, improper, masks, layings, offsets, outlines, corners, random, chains,
-        bad_lines,
+        touches, bad_lines,
     ] {
         part(&mut list);
     }

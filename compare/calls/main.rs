@@ -3,6 +3,7 @@
 mod answer;
 mod chains;
 mod list;
+mod touches;
 
 use std::{
     collections::BTreeMap,

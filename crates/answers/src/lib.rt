@@ -11,6 +11,7 @@ use shape::CoverageAnswer;
 use shape::DistanceAnswer;
 use shape::RoundedBox;
 use shape::TestAnswer;
+use touch::TouchAnswer;
 
 pub fn write(text: &[u8]) {
     io::write_all(STDOUT_FILENO, text);
@@ -133,6 +134,20 @@ pub fn test(answer: TestAnswer) {
     }
 }
 
+fn place(k: u8) {
+    write(b"frame ");
+    io::print_decimal(STDOUT_FILENO, k as u64);
+    write(b"\n");
+}
+
+pub fn touch(answer: TouchAnswer) {
+    match answer {
+        TouchAnswer::Frame(k) => place(k),
+        TouchAnswer::NoFrame => write(b"noframe\n"),
+        TouchAnswer::Refused(fault) => refused(fault),
+    }
+}
+
 fn message(problem: Problem) {
     match problem {
         Problem::Nothing => write(b"nothing is wrong"),
@@ -147,8 +162,9 @@ fn message(problem: Problem) {
         Problem::NotAByte => write(b"a verb or a byte is not a decimal number up to 255"),
         Problem::BufferTooLong => write(b"a buffer has at most 65,536 bytes"),
         Problem::TooManyWords => write(b"a drawing takes at most 16,384 words"),
-        Problem::TooManyFloats => write(b"an outline's line takes at most 2,048 floats"),
+        Problem::TooManyFloats => write(b"a line takes at most 2,573 floats"),
         Problem::TooManyVerbs => write(b"an outline's line takes at most 512 verbs"),
+        Problem::TooManyBoxes => write(b"a touch list's line takes at most 257 boxes"),
         Problem::ScratchTooLong => write(b"scratch has at most 40,000 floats and 5,000 counters"),
     }
 }

@@ -1,5 +1,6 @@
 // The calls on boxes.
 use fields::Field;
+use fields::MOST_BOXES;
 use fields::MOST_FLOATS;
 use fields::MOST_LINE;
 use fields::MOST_VERBS;
@@ -8,7 +9,8 @@ use geometry::Position;
 use geometry::Transform2D;
 use shape::ClipCoverage;
 use shape::RoundedBox;
-ghost use Prim.Native.Nat.{_<_};
+use touch::TouchAnswer;
+ghost use Prim.Native.Nat.{_<_, _≤_};
 
 enum BoxCall {
     Transformed,
@@ -66,7 +68,7 @@ fn floats_of(call: BoxCall) -> usize {
 }
 
 fn frame_at(f: &[f32; MOST_FLOATS], at: usize) -> Transform2D
-    requires { ⌜ at < 100 ⌝ }
+    requires { ⌜ at < 2564 ⌝ }
 {
     Transform2D {
         a: f[at],
@@ -79,7 +81,7 @@ fn frame_at(f: &[f32; MOST_FLOATS], at: usize) -> Transform2D
 }
 
 fn box_at(f: &[f32; MOST_FLOATS], at: usize) -> RoundedBox
-    requires { ⌜ at < 90 ⌝ }
+    requires { ⌜ at < 2564 ⌝ }
 {
     RoundedBox {
         frame: frame_at(f, at),
@@ -204,10 +206,55 @@ fn fit(line: &[u8; MOST_LINE], at: usize) -> Problem {
     fit_positions(line, list.at, &verbs, list.count)
 }
 
+// ---- the touch list
+
+// All boxes that there is room for; a list of fewer is its first ones.
+fn boxes_of(f: &[f32; MOST_FLOATS]) -> [RoundedBox; MOST_BOXES] {
+    let mut boxes = [box_at(f, 0); MOST_BOXES];
+    let mut i = 0;
+    while i < MOST_BOXES {
+        boxes[i] = box_at(f, i * 10);
+        i = i + 1;
+    }
+    boxes
+}
+
+// The touch of the first n boxes, with the fringe and the point behind them.
+fn touched(f: &[f32; MOST_FLOATS], n: usize) -> TouchAnswer
+    requires { ⌜ n ≤ 257 ⌝ }
+{
+    touch::touch_few(boxes_of(f), n, f[n * 10], f[n * 10 + 1], f[n * 10 + 2])
+}
+
+fn touch(line: &[u8; MOST_LINE], at: usize) -> Problem {
+    let mut floats = [0f32; MOST_FLOATS];
+    let count = fields::size_at(line, at);
+    let n = count.value;
+    if !count.good {
+        return Problem::NotANumber;
+    }
+    if n > MOST_BOXES {
+        return Problem::TooManyBoxes;
+    }
+    let list = fields::floats(line, count.at, n * 10 + 3, &mut floats);
+    let problem = list.problem;
+    let Problem::Nothing = problem else {
+        return problem;
+    };
+    let Problem::Nothing = fields::at_end(line, list.at) else {
+        return Problem::FieldTooMany;
+    };
+    answers::touch(touched(&floats, n));
+    Problem::Nothing
+}
+
 // Answers the call that has a name, with the fields behind it.
 pub fn answer(line: &[u8; MOST_LINE], name: Field) -> Problem {
     if fields::is(line, name, b"fit") {
         return fit(line, name.end);
+    }
+    if fields::is(line, name, b"touch") {
+        return touch(line, name.end);
     }
     match call(line, name) {
         BoxCall::Unknown => Problem::UnknownCall,

@@ -5,8 +5,10 @@ ghost use mathlib.Core.Path.{_≡_};
 pub const MOST_LINE: usize = 262144;
 // The most words of a drawing.
 pub const MOST_WORDS: usize = 16384;
-
-pub const MOST_FLOATS: usize = 2048;
+// The most boxes of a touch list: one more than a list that is taken.
+pub const MOST_BOXES: usize = 257;
+// The most floats: those of the most boxes, a fringe and a point.
+pub const MOST_FLOATS: usize = 2573;
 
 pub const MOST_VERBS: usize = 512;
 
@@ -26,6 +28,7 @@ pub enum Problem {
     TooManyWords,
     TooManyFloats,
     TooManyVerbs,
+    TooManyBoxes,
     ScratchTooLong,
 }
 
