@@ -44,6 +44,11 @@ pub enum Call {
         coverage: Coverage11,
         point: [f32; 2],
     },
+    Touch {
+        boxes: Vec<Box10>,
+        fringe: f32,
+        point: [f32; 2],
+    },
 }
 
 /// The bits of a float; every NaN counts as one value.
@@ -100,6 +105,15 @@ impl fmt::Display for Call {
             Call::Distance { coverage, point } => {
                 write!(f, "distance{}{}", Floats(coverage), Floats(point))
             }
+            Call::Touch {
+                boxes,
+                fringe,
+                point: [x, y],
+            } => {
+                write!(f, "touch {}", boxes.len())?;
+                boxes.iter().try_for_each(|b| write!(f, "{}", Floats(b)))?;
+                write!(f, "{}", Floats(&[*fringe, *x, *y]))
+            }
         }
     }
 }
@@ -116,6 +130,7 @@ impl Call {
             Call::Contains { .. } => "contains",
             Call::Bounds { .. } => "bounds",
             Call::Distance { .. } => "distance",
+            Call::Touch { .. } => "touch",
         }
     }
 
@@ -170,6 +185,14 @@ impl Call {
                 lending.written(old, 1, [coverage], |[coverage], out| {
                     library::distance(coverage, *point, out)
                 })
+            }
+            Call::Touch {
+                boxes,
+                fringe,
+                point,
+            } => {
+                let old = calls::touch(boxes, *fringe, *point);
+                lending.touched(old, boxes, |boxes| library::touch(boxes, *fringe, *point))
             }
         }
     }
@@ -260,6 +283,33 @@ impl Lending<'_> {
         };
         expected(new, number, &parts)?;
         Ok(number)
+    }
+
+    /// Compares a touch: any place that the Rust allows is right, and no frame where it allows none.
+    fn touched(
+        mut self,
+        old: Result<Vec<usize>, Refused>,
+        boxes: &[Box10],
+        call: impl Fn(&[Box10]) -> u32,
+    ) -> Result<u8, String> {
+        let boxes = Lent::holding(boxes, || [0; 10].map(|_| self.rubbish()));
+        let new = call(boxes.lent());
+        let same = |now: &Box10, before: &Box10| {
+            let mut pairs = now.iter().zip(before);
+            pairs.all(|(now, before)| same_bits(now, before))
+        };
+        if !boxes.kept(0, same) {
+            return Err(changed());
+        }
+        let named = |place: &usize| new == library::FIRST_PLACE + *place as u32;
+        match old {
+            Err(number) if new == u32::from(number) => Ok(number),
+            Ok(places) if places.iter().any(named) => Ok(library::DONE),
+            Ok(places) if places.is_empty() && new == u32::from(library::NO_FRAME) => {
+                Ok(library::NO_FRAME)
+            }
+            old => Err(format!("number {new}, the Rust {old:?}")),
+        }
     }
 }
 

@@ -5,6 +5,9 @@ pub const TOO_SHORT: u8 = 4;
 pub const NONE: u8 = 13;
 pub const YES: u8 = 14;
 pub const NO: u8 = 15;
+pub const NO_FRAME: u8 = 16;
+/// The number of place 0 of a touch list.
+pub const FIRST_PLACE: u32 = 256;
 
 mod c {
     #[link(name = "beamnettle", kind = "static")]
@@ -99,6 +102,13 @@ mod c {
             shape: *const f32,
             shape_length: usize,
         ) -> u8;
+        pub fn beamnettle_touch(
+            boxes: *const [f32; 10],
+            boxes_length: usize,
+            fringe: f32,
+            x: f32,
+            y: f32,
+        ) -> u32;
     }
 }
 
@@ -247,4 +257,9 @@ pub fn contains(coverage: &[f32], shape: &[f32]) -> u8 {
             shape.len(),
         )
     }
+}
+
+pub fn touch(boxes: &[[f32; 10]], fringe: f32, point: [f32; 2]) -> u32 {
+    let [x, y] = point;
+    unsafe { c::beamnettle_touch(boxes.as_ptr(), boxes.len(), fringe, x, y) }
 }

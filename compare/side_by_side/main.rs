@@ -12,6 +12,7 @@ mod lent;
 mod library;
 mod random;
 mod reckoner;
+mod touches;
 mod whole;
 
 use chain::Chain;
@@ -23,8 +24,8 @@ use std::{
     time::{Duration, Instant},
 };
 
-/// Numbers 0 to 15.
-const ANSWERS: usize = 16;
+/// Numbers 0 to 16; a place counts as done.
+const ANSWERS: usize = 17;
 
 /// Everything that is counted.
 #[derive(Default)]
@@ -52,7 +53,7 @@ impl Counts {
         let heads = (1..13).map(|number| number.to_string());
         let heads = std::iter::once("done".into())
             .chain(heads)
-            .chain(["none", "yes", "no"].map(String::from));
+            .chain(["none", "yes", "no", "no frame"].map(String::from));
         print!("{:18}", "");
         heads.for_each(|head| print!("{head:>9}"));
         println!();
