@@ -1,4 +1,4 @@
--- The exported calls, outright: document 01's answers as numbers, and what is lent afterwards. Definitions only.
+-- The exported calls, outright: document 01's answers as numbers, and what is lent afterwards; touch by its rule. Definitions only.
 use Prim.Native.Nat.{ℕ, _+_}
 use mathlib.Core.Path.{_≡_}
 use mathlib.Core.Bool.{Bool, cond}

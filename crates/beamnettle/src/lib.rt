@@ -1,5 +1,6 @@
 // The kiosk's C library: document 01's calls over numbers and lent slices. include/beamnettle.h says
-// what each does in words; each contract gives its number and all that is lent afterwards outright.
+// what each does in words; each contract gives its number and all that is lent afterwards outright, but
+// for the place that a touch names, which document 01 leaves free.
 use coverage::Size;
 use geometry::Position;
 use geometry::Transform2D;
