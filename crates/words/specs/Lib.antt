@@ -2,3 +2,4 @@
 pub mod Words
 pub mod Writer
 pub mod Scan
+pub mod Reader

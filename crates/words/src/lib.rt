@@ -6,6 +6,7 @@ ghost use Prim.Native.Nat.{_+_, _≤_};
 ghost use lib.ListN.{length, drop};
 ghost use Rattle.words.specs.Words.{beyond, readCount, readCoordinate, readPoint, readPoints, readContour, readContours, readGroup, readWords, pointsOf, pointsIn};
 ghost use Rattle.words.specs.Scan.{countedOf, checkedOf, scanOf, groupPoints};
+ghost use Rattle.words.specs.Reader.{ahead, wordOf, isEvenOdd};
 
 // Points that a list may have.
 pub const MOST_POINTS: usize = 2048;
@@ -26,6 +27,74 @@ pub enum Checked {
 pub enum Scan {
     At(usize, usize),
     Refused(Fault),
+}
+
+// A word of the list, or its end.
+pub enum Word {
+    Value(i32),
+    End,
+}
+
+// What stands at a place.
+fn value_at(words: &[i32], at: usize) -> Word
+    ensures { λ r. ⌜ r ≡ wordOf (drop at (now (words .entry))) ⌝ }
+{
+    if words.len() <= at {
+        return Word::End;
+    }
+    Word::Value(words[at])
+}
+
+// The place `by` words behind another, or the list's end.
+fn place_behind(words: &[i32], at: usize, by: usize) -> usize
+    ensures { λ r. ⌜ drop r (now (words .entry)) ≡ drop by (drop at (now (words .entry))) ⌝ }
+{
+    if words.len() <= at {
+        return at;
+    }
+    if words.len() - at < by {
+        return words.len();
+    }
+    at + by
+}
+
+// The word reader: the lent list, and the place of the next word.
+struct WordReader<'a> {
+    words: &'a [i32],
+    at: usize,
+}
+
+impl<'a> WordReader<'a> {
+    // A reader whose next word is the list's first.
+    fn new(words: &'a [i32]) -> WordReader<'a>
+        ensures { λ r. ⌜ ahead r ≡ now (words .entry) ⌝ }
+    {
+        WordReader { words, at: 0 }
+    }
+
+    // The reader, so many words on.
+    fn moved(self, by: usize) -> WordReader<'a>
+        ensures { λ r. ⌜ ahead r ≡ drop by (ahead (self .entry)) ⌝ }
+    {
+        WordReader {
+            words: self.words,
+            at: place_behind(self.words, self.at, by),
+        }
+    }
+
+    // The next word.
+    fn peek(self) -> Word
+        ensures { λ r. ⌜ r ≡ wordOf (ahead (self .entry)) ⌝ }
+    {
+        value_at(self.words, self.at)
+    }
+}
+
+// The word at a place, by a reader. Every word of a list is read by it.
+pub fn word_at(words: &[i32], at: usize) -> Word
+    ensures { λ r. ⌜ r ≡ wordOf (drop at (now (words .entry))) ⌝ }
+{
+    WordReader::new(words).moved(at).peek()
 }
 
 // The count word at a place.
