@@ -29,10 +29,10 @@ module _ (ws : List ℤ) (at : ℕ) where
       go true h = let f = word-here (ltb-true at (length ws) h) ∙ e in let z : _≡_ {A = ℕ} 0 1 = cc in absurd (omega arith)
       go false h = ltb-false at (length ws) h
 
-  pub word-there : (w : ℤ) → wordOf (drop at ws) ≡ Value w → (at < length ws) × (getD ws at (pos 0) ≡ w)
+  pub word-there : (w : ℤ) → wordOf (drop at ws) ≡ Value w → (at < length ws) × (w ≡ getD ws at (pos 0))
   word-there w e = go (ltb at (length ws)) refl
     where
-      go : (b : Bool) → ltb at (length ws) ≡ b → (at < length ws) × (getD ws at (pos 0) ≡ w)
+      go : (b : Bool) → ltb at (length ws) ≡ b → (at < length ws) × (w ≡ getD ws at (pos 0))
       go true h = let f = word-here (ltb-true at (length ws) h) ∙ e in (ltb-true at (length ws) h, cc)
       go false h = let f = word-missing (ltb-false at (length ws) h) ∙ e in let z : _≡_ {A = ℕ} 0 1 = cc in absurd (omega arith)
 

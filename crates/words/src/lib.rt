@@ -97,14 +97,23 @@ pub fn word_at(words: &[i32], at: usize) -> Word
     WordReader::new(words).moved(at).peek()
 }
 
+// Whether the rule word at a place asks for even-odd.
+pub fn is_even_odd_at(words: &[i32], at: usize) -> bool
+    ensures { λ r. ⌜ r ≡ isEvenOdd (wordOf (drop at (now (words .entry)))) ⌝ }
+{
+    match word_at(words, at) {
+        Word::Value(rule) => rule != 0,
+        Word::End => false,
+    }
+}
+
 // The count word at a place.
 pub fn count_at(words: &[i32], at: usize) -> Counted
     ensures { λ r. ⌜ r ≡ countedOf (readCount (drop at (now (words .entry)))) ⌝ }
 {
-    if words.len() <= at {
+    let Word::Value(word) = word_at(words, at) else {
         return Counted::Refused(Fault::ListEndsEarly);
-    }
-    let word = words[at];
+    };
     if word < 0 {
         return Counted::Refused(Fault::CountOutOfRange);
     }
@@ -125,10 +134,10 @@ fn is_beyond(word: i32) -> bool
 fn coordinate_at(words: &[i32], at: usize) -> Checked
     ensures { λ r. ⌜ r ≡ checkedOf (readCoordinate (drop at (now (words .entry)))) ⌝ }
 {
-    if words.len() <= at {
+    let Word::Value(word) = word_at(words, at) else {
         return Checked::Refused(Fault::ListEndsEarly);
-    }
-    if is_beyond(words[at]) {
+    };
+    if is_beyond(word) {
         return Checked::Refused(Fault::CoordinateOutOfRange);
     }
     Checked::Good
@@ -206,9 +215,9 @@ fn group_at(words: &[i32], from: usize, before: usize) -> Scan
     requires { ⌜ before ≤ 2048 ⌝ }
     ensures { λ r. ⌜ r ≡ scanOf (length (now (words .entry))) groupPoints before (readGroup before (drop from (now (words .entry)))) ⌝ }
 {
-    if words.len() <= from {
+    let Word::Value(_) = word_at(words, from) else {
         return Scan::Refused(Fault::ListEndsEarly);
-    }
+    };
     match count_at(words, from + 1) {
         Counted::Refused(f) => Scan::Refused(f),
         Counted::Count(n) => contours_at(words, from + 2, n, before),
