@@ -35,7 +35,7 @@ pub enum Word {
     End,
 }
 
-// What stands at a place.
+// What stands at a place: the only index into a word list.
 fn value_at(words: &[i32], at: usize) -> Word
     ensures { λ r. ⌜ r ≡ wordOf (drop at (now (words .entry))) ⌝ }
 {
@@ -58,7 +58,8 @@ fn place_behind(words: &[i32], at: usize, by: usize) -> usize
     at + by
 }
 
-// The word reader: the lent list, and the place of the next word.
+// The word reader: the lent list and the place of its next word. The borrow checker covers no
+// function over it, so each is thin and its proof by hand; the work is done by those above.
 struct WordReader<'a> {
     words: &'a [i32],
     at: usize,
@@ -72,7 +73,7 @@ impl<'a> WordReader<'a> {
         WordReader { words, at: 0 }
     }
 
-    // The reader, so many words on.
+    // The reader `by` words on, or at the list's end.
     fn moved(self, by: usize) -> WordReader<'a>
         ensures { λ r. ⌜ ahead r ≡ drop by (ahead (self .entry)) ⌝ }
     {
@@ -90,14 +91,14 @@ impl<'a> WordReader<'a> {
     }
 }
 
-// The word at a place, by a reader. Every word of a list is read by it.
+// The word at a place. Every word of a list is read by this call.
 pub fn word_at(words: &[i32], at: usize) -> Word
     ensures { λ r. ⌜ r ≡ wordOf (drop at (now (words .entry))) ⌝ }
 {
     WordReader::new(words).moved(at).peek()
 }
 
-// Whether the rule word at a place asks for even-odd.
+// Whether the rule word at a place asks for even-odd. The list's end does not.
 pub fn is_even_odd_at(words: &[i32], at: usize) -> bool
     ensures { λ r. ⌜ r ≡ isEvenOdd (wordOf (drop at (now (words .entry)))) ⌝ }
 {
