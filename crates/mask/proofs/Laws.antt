@@ -1,30 +1,22 @@
--- Drawings as a whole (specs/Laws.antt), and the starred ones computed (specs/Examples.antt). Assumes nothing.
+-- Drawings as a whole (specs/Laws.antt). Assumes nothing.
 use mathlib.Core.Path.{_≡_, refl, sym, ap, _∙_}
 use mathlib.Core.Bool.{Bool, true, false, cond, _||_}
 use mathlib.Core.List.{List, [], _∷_, _++_}
 use Prim.Native.Nat.{ℕ, _*_, _≤_, _<_}
 use native.Mathlib.Omega.{arith}
-use lib.Count.{trailingZeros}
 use lib.Dec.{ltb}
 use lib.IntN.{ℤ}
 use lib.ListN.{length, take, drop}
-use lib.Ieee.{ofBits, ofFields, odd, units, round, size, span, climb, ofInt, add, sub, sum, mul, div, rem, neg, lt, le, eq, ne, isNan, toUnsigned}
-use lib.Signed.{ltZ}
 use borrow.Author.Tests.{ltb-false, le-ltb}
 use Rattle.fault.specs.declared.Fault.{Fault}
 use Rattle.fault.specs.declared.Fault.the-variants.{MaskTooLarge, BufferTooShort}
-use Rattle.float.specs.Simple.{absOf, minOf, maxOf}
-use Rattle.words.specs.Words.{Group, pointsIn, Read, ok, fault, andThen, beyond, readCount, readCoordinate, readPoint, readPoints, readContour, readContours, readGroup, readGroups, readWords, pointsOf, groupsOf}
+use Rattle.words.specs.Words.{Group, pointsIn, Read, ok, fault, readWords, groupsOf}
 use Rattle.words.specs.Writer.{wordsOf, Allowed}
 use Rattle.words.proofs.RoundTrip.{reads-what-is-written}
-use Rattle.row.specs.Row.{addOf, evenlyOf, singleOf, betweenOf, acrossOf, ceilColumn, insideOf, clipOf, spanBy}
-use Rattle.row.specs.Sweep.{shareOf, coveredOf, bytesOf, addBytes}
-use Rattle.edge.specs.Edges.{slopedOf, edgeOf, walkOf, lastOf, contourOf, edgesOf, startingIn, reachingBelow, activeEdges, pieceOf, piecesOf}
 use Rattle.coverage.specs.declared.Size.{Size}
-use Rattle.coverage.specs.Drawing.{groupRow, addGroups, drawingRow, rowsFrom, drawingOf}
+use Rattle.coverage.specs.Drawing.{drawingOf}
 use Rattle.mask.specs.Calls.{cellsOf, tooLarge, floatsNeeded, countersNeeded, Lent, listAnswer, drawAnswer, maskAfterDrawing}
 use Rattle.mask.specs.Laws.{CanDraw, DoneExactlyWhen, SameCells}
-use Rattle.mask.specs.Examples.{DrawnAsListed, TellsXFromY}
 use Rattle.mask.specs.declared.Outcome.{Outcome}
 use Rattle.mask.specs.declared.Outcome.the-variants.{Done, Refused}
 use Rattle.coverage.proofs.Places.{drawing-length}
@@ -87,18 +79,3 @@ same-cells s words mask other h k = front mask ∙ sym (front other)
     front : (m : List ℕ) → take (cellsOf s) (drawingOf s (groupsOf words) ++ drop (cellsOf s) m) ≡ drawingOf s (groupsOf words)
     front m =
         ap (λ (n : ℕ). take n (drawingOf s (groupsOf words) ++ drop (cellsOf s) m)) (sym (drawing-length s (groupsOf words))) ∙ take-front (drawingOf s (groupsOf words)) (drop (cellsOf s) m)
-
--- ---- document 01's starred drawings
-pub drawn-as-listed : DrawnAsListed
-unfolding rowsFrom addGroups groupRow piecesOf pieceOf activeEdges reachingBelow startingIn edgesOf contourOf lastOf walkOf edgeOf slopedOf
-    addBytes bytesOf coveredOf shareOf absOf minOf maxOf clipOf spanBy insideOf ceilColumn acrossOf betweenOf singleOf evenlyOf addOf
-    andThen beyond readCount readCoordinate readPoint readPoints readContour readContours readGroup readGroups readWords pointsOf pointsIn
-    ofBits ofFields odd units round size span climb ofInt add sub sum mul div rem neg lt le eq ne isNan toUnsigned trailingZeros
-drawn-as-listed = refl
-
-pub tells-x-from-y : TellsXFromY
-unfolding rowsFrom addGroups groupRow piecesOf pieceOf activeEdges reachingBelow startingIn edgesOf contourOf lastOf walkOf edgeOf slopedOf
-    addBytes bytesOf coveredOf shareOf absOf minOf maxOf clipOf spanBy insideOf ceilColumn acrossOf betweenOf singleOf evenlyOf addOf
-    andThen beyond readCount readCoordinate readPoint readPoints readContour readContours readGroup readGroups readWords pointsOf pointsIn
-    ofBits ofFields odd units round size span climb ofInt add sub sum mul div rem neg lt le eq ne isNan toUnsigned trailingZeros
-tells-x-from-y = refl
