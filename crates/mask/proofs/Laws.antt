@@ -7,6 +7,7 @@ use native.Mathlib.Omega.{arith}
 use lib.Dec.{ltb}
 use lib.IntN.{ℤ}
 use lib.ListN.{length, take, drop}
+use lib.Seq.{take-at}
 use borrow.Author.Tests.{ltb-false, le-ltb}
 use Rattle.fault.specs.declared.Fault.{Fault}
 use Rattle.fault.specs.declared.Fault.the-variants.{MaskTooLarge, BufferTooShort}
@@ -20,11 +21,11 @@ use Rattle.mask.specs.Laws.{CanDraw, DoneExactlyWhen, SameCells}
 use Rattle.mask.specs.declared.Outcome.{Outcome}
 use Rattle.mask.specs.declared.Outcome.the-variants.{Done, Refused}
 use Rattle.coverage.proofs.Places.{drawing-length}
-use Rattle.mask.proofs.Cleared.{take-front}
+use Rattle.mask.proofs.Answers.{not-done, size-small}
 
 -- ---- done exactly when
 passed : (b : Bool) (f : Fault) (r : Outcome) → cond b (Refused f) r ≡ Done → (b ≡ false) × (r ≡ Done)
-passed true f r e = let z : _≡_ {A = ℕ} 0 1 = cc in absurd (omega arith)
+passed true f r e = absurd (not-done (sym e))
 passed false f r e = (refl, e)
 
 neither : (a b : Bool) → (a || b) ≡ false → (a ≡ false) × (b ≡ false)
@@ -33,7 +34,7 @@ neither false b e = (refl, e)
 
 read-done : (s : Size) (words : List ℤ) (lent : Lent) (r : Read (List Group)) → readWords words ≡ r → listAnswer s lent r ≡ Done
     → (gs : List Group) × (rest : List ℤ) × (readWords words ≡ ok gs rest) × (floatsNeeded s gs ≤ lent .floats) × (countersNeeded s ≤ lent .counters)
-read-done s words lent (fault f) q e = let z : _≡_ {A = ℕ} 0 1 = cc in absurd (omega arith)
+read-done s words lent (fault f) q e = absurd (not-done (sym e))
 read-done s words lent (ok gs rest) q e =
     let p = passed (ltb (lent .floats) (floatsNeeded s gs) || ltb (lent .counters) (countersNeeded s)) BufferTooShort Done e in
     let n = neither (ltb (lent .floats) (floatsNeeded s gs)) (ltb (lent .counters) (countersNeeded s)) (p .0) in
@@ -42,13 +43,13 @@ read-done s words lent (ok gs rest) q e =
 only : (s : Size) (words : List ℤ) (lent : Lent) → drawAnswer s words lent ≡ Done → CanDraw s words lent
 only s words lent e =
     let a = passed (tooLarge s) MaskTooLarge (cond (ltb (lent .mask) (cellsOf s)) (Refused BufferTooShort) (listAnswer s lent (readWords words))) e in
-    let n = neither (ltb 4096 (s .width)) (ltb 4096 (s .height)) (a .0) in
+    let n = size-small s (a .0) in
     let b = passed (ltb (lent .mask) (cellsOf s)) BufferTooShort (listAnswer s lent (readWords words)) (a .1) in
     let r = read-done s words lent (readWords words) refl (b .1) in
     let w = reads-what-is-written .forth words (r .0) (r .1) (r .2) in
     record {
-      narrow = ltb-false 4096 (s .width) (n .0);
-      low = ltb-false 4096 (s .height) (n .1);
+      narrow = n .0;
+      low = n .1;
       cells = ltb-false (lent .mask) (cellsOf s) (b .0);
       groups = r .0;
       written = w .1;
@@ -78,4 +79,4 @@ same-cells s words mask other h k = front mask ∙ sym (front other)
   where
     front : (m : List ℕ) → take (cellsOf s) (drawingOf s (groupsOf words) ++ drop (cellsOf s) m) ≡ drawingOf s (groupsOf words)
     front m =
-        ap (λ (n : ℕ). take n (drawingOf s (groupsOf words) ++ drop (cellsOf s) m)) (sym (drawing-length s (groupsOf words))) ∙ take-front (drawingOf s (groupsOf words)) (drop (cellsOf s) m)
+        take-at (drawingOf s (groupsOf words)) (drop (cellsOf s) m) (cellsOf s) (drawing-length s (groupsOf words))
