@@ -1,10 +1,10 @@
 -- A group's edges put into the table: its rows can be drawn, and come to the group's. Assumes nothing.
-use mathlib.Core.Path.{_≡_, refl, sym, ap, ap₂, _∙_, subst}
+use mathlib.Core.Path.{_≡_, sym, ap, ap₂, _∙_, subst}
 use mathlib.Core.Bool.{Bool}
-use mathlib.Core.List.{List, _∷_, _++_}
-use Prim.Native.Nat.{ℕ, zero, suc, _+_, _*_, _-_, _≤_, _<_}
+use mathlib.Core.List.{List, _++_}
+use Prim.Native.Nat.{ℕ, _+_, _*_, _-_, _≤_, _<_}
 use native.Mathlib.Omega.{arith}
-use lib.ListN.{length, getD, take, drop, replicate, length-take, length-drop, getD-replicate, List·getD-append}
+use lib.ListN.{length, getD, take, drop, length-take, length-drop, getD-replicate, List·getD-append}
 use lib.Seq.{getD-append-add, getD-drop, getD-take, take-take, length-take-le}
 use lib.Ieee.{Float}
 use borrow.Rule.Slice.PartMut.{putMid, take-put, same-len-mid}

@@ -1,10 +1,7 @@
 -- Document 01's starred examples, computed from the definitions that the contracts cite. Assumes nothing.
-use mathlib.Core.Path.{_≡_, refl}
-use mathlib.Core.List.{List, [], _∷_}
+use mathlib.Core.Path.{refl}
 use lib.Count.{trailingZeros}
-use lib.IntN.{pos}
 use lib.Ieee.{ofBits, ofFields, odd, units, round, size, span, climb, ofInt, add, sub, sum, mul, div, rem, neg, lt, le, eq, ne, isNan, toUnsigned}
-use Rattle.float.specs.Ops.{f0, f1, f2}
 use Rattle.float.specs.Simple.{absOf, minOf, maxOf}
 use Rattle.float.specs.Width.{narrowOf}
 use Rattle.float.specs.Root.{rootBelow, wholeRoot, roundRoot, sqrtOf, hypotOf}
@@ -19,7 +16,7 @@ use Rattle.shape.specs.Checks.{inRangeOf}
 use Rattle.fit.specs.Outline.{verbCheckOf, verbsCheckOf, floatsOf, floatsNeededOf, allInRangeOf, outlineCheckOf}
 use Rattle.fit.specs.Contour.{samePlaceOf, moveOf, drawOf, contourFrom}
 use Rattle.fit.specs.Fit.{reachOf, sizeBelow, crossOf, turnsOf, turnsAtOf, cornersBelow, closeOf, centredOf, spannedOf, cornersBoxOf, parallelogramOf, contourBoxOf, fitOf}
-use Rattle.examples.specs.Starred.{Example, drawing, laying, outline, Shown, All, starred, StarredShown, TellsXFromY}
+use Rattle.examples.specs.Starred.{StarredShown, TellsXFromY}
 
 pub starred-shown : StarredShown
 unfolding rowsFrom addGroups groupRow piecesOf pieceOf activeEdges reachingBelow startingIn edgesOf contourOf lastOf walkOf edgeOf slopedOf

@@ -1,22 +1,20 @@
 -- Drawings as a whole (specs/Laws.antt). Assumes nothing.
 use mathlib.Core.Path.{_≡_, refl, sym, ap, _∙_}
 use mathlib.Core.Bool.{Bool, true, false, cond, _||_}
-use mathlib.Core.List.{List, [], _∷_, _++_}
-use Prim.Native.Nat.{ℕ, _*_, _≤_, _<_}
-use native.Mathlib.Omega.{arith}
+use mathlib.Core.List.{List, [], _++_}
+use Prim.Native.Nat.{ℕ, _≤_}
 use lib.Dec.{ltb}
 use lib.IntN.{ℤ}
-use lib.ListN.{length, take, drop}
+use lib.ListN.{take, drop}
 use lib.Seq.{take-at}
 use borrow.Author.Tests.{ltb-false, le-ltb}
 use Rattle.fault.specs.declared.Fault.{Fault}
 use Rattle.fault.specs.declared.Fault.the-variants.{MaskTooLarge, BufferTooShort}
-use Rattle.words.specs.Words.{Group, pointsIn, Read, ok, fault, readWords, groupsOf}
-use Rattle.words.specs.Writer.{wordsOf, Allowed}
+use Rattle.words.specs.Words.{Group, Read, ok, fault, readWords, groupsOf}
 use Rattle.words.proofs.RoundTrip.{reads-what-is-written}
 use Rattle.coverage.specs.declared.Size.{Size}
 use Rattle.coverage.specs.Drawing.{drawingOf}
-use Rattle.mask.specs.Calls.{cellsOf, tooLarge, floatsNeeded, countersNeeded, Lent, listAnswer, drawAnswer, maskAfterDrawing}
+use Rattle.mask.specs.Calls.{cellsOf, tooLarge, floatsNeeded, countersNeeded, Lent, listAnswer, drawAnswer}
 use Rattle.mask.specs.Laws.{CanDraw, DoneExactlyWhen, SameCells}
 use Rattle.mask.specs.declared.Outcome.{Outcome}
 use Rattle.mask.specs.declared.Outcome.the-variants.{Done, Refused}
