@@ -1,14 +1,18 @@
--- Masks as rows, one after another: a row replaced, bytes added to every row, and a group's bytes added to rows. Assumes nothing.
+-- Masks as rows, one after another: a front of zeros, a row replaced, bytes added to every row, and a group's bytes added to rows. Assumes nothing.
 use mathlib.Core.Path.{_≡_, refl, sym, ap, _∙_}
 use mathlib.Core.List.{List, [], _∷_, _++_, append-assoc}
 use Prim.Native.Nat.{ℕ, zero, suc, _+_, _-_, _*_, _≤_, _<_}
 use native.Mathlib.Nat.{suc-mul}
 use native.Mathlib.Omega.{arith}
-use lib.ListN.{length, take, drop, replicate, length-append, length-take, length-drop, replicate-append-replicate}
+use lib.ListN.{length, take, drop, replicate, length-append, length-take, length-drop, length-replicate, replicate-append-replicate}
 use lib.Seq.{take-at, drop-at}
 use Rattle.row.specs.Sweep.{addBytes}
 use Rattle.coverage.specs.Drawing.{rowsFrom}
 use Rattle.coverage.specs.Resolving.{rowsChanged, rowsAdded}
+
+-- the first of elements that are all alike
+pub take-alike : {A : Type 0} (n k : ℕ) (a : A) → take n (replicate (n + k) a) ≡ replicate n a
+take-alike n k a = ap (take n) (sym (replicate-append-replicate n k a)) ∙ take-at (replicate n a) (replicate k a) n (length-replicate n a)
 
 -- ---- bytes added to every row
 

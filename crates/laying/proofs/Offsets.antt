@@ -1,14 +1,13 @@
 -- A negative offset, turned round in 64 bits. Assumes nothing.
 use mathlib.Core.Path.{_≡_, refl, ap}
 use mathlib.Core.Bool.{true, false, true≢false}
-use Prim.Native.Nat.{ℕ, suc, _≤_}
+use Prim.Native.Nat.{_≤_}
 use native.Mathlib.Omega.{arith}
 use lib.IntN.{ℤ, pos, negsuc, natAbs, _-ℤ_}
 use lib.Signed.{ltZ}
 use mir.Syntax.{w32, w64}
 use mir.Val.{SFits}
 use borrow.Author.Tests.{ltb-true}
-use Rattle.laying.specs.declared.Start.{Start}
 use Rattle.laying.specs.Lines.{startOf}
 
 pub wider : (z : ℤ) → SFits w32 z → SFits w64 z

@@ -14,11 +14,11 @@ use lib.Seq.{length-take-le}
 use borrow.Author.Tests.{ltb-true, ltb-false, lt-ltb, le-ltb}
 use Rattle.fault.specs.declared.Fault.{Fault}
 use Rattle.fault.specs.declared.Fault.the-variants.{MaskTooLarge, BufferTooShort}
-use Rattle.words.specs.Words.{Group, pointsIn, Read, ok, fault, readWords, readOr, groupsOf}
+use Rattle.words.specs.Words.{pointsIn, readWords, groupsOf}
 use Rattle.words.specs.Scan.{Fine, scanOf}
 use Rattle.words.specs.declared.Scan.the-variants as scan
 use Rattle.words.proofs.Places.{fine-read, read-fine, read-value, words-few}
-use Rattle.words.proofs.Steps.{Went, scan-at, scan-fault}
+use Rattle.words.proofs.Steps.{scan-at, scan-fault}
 use Rattle.coverage.specs.declared.Size.{Size}
 use Rattle.coverage.specs.Resolving.{Room}
 use Rattle.mask.specs.Calls.{cellsOf, tooLarge, Lent, floatsNeeded, countersNeeded, listAnswer, drawAnswer, layAnswer}

@@ -11,11 +11,10 @@ use lib.ListN.{length}
 use borrow.Author.Tests.{ltb-true, ltb-false, lt-ltb, le-ltb}
 use Rattle.fault.specs.declared.Fault.{Fault}
 use Rattle.fault.specs.declared.Fault.the-variants.{MaskTooLarge, BufferTooShort, ListEndsEarly, CountOutOfRange, CoordinateOutOfRange}
-use Rattle.words.specs.Words.{Point, Group, Read, ok, fault, andThen, beyond, readCount, readCoordinate, readPoint, readPoints, readContour, readContours, readGroup, readGroups, readWords, pointsOf}
+use Rattle.words.specs.Words.{Group, Read, ok, fault, andThen, beyond, readCount, readCoordinate, readPoint, readPoints, readContour, readContours, readGroup, readGroups, readWords, pointsOf}
 use Rattle.coverage.specs.declared.Size.{Size}
-use Rattle.mask.specs.Calls.{cellsOf, tooLarge, floatsNeeded, countersNeeded, Lent, listAnswer, drawAnswer}
-use Rattle.mask.specs.Laws.{TooLarge, SizeAllowed, ScratchShort, FirstCause, RefusedExactlyWhen, ListFaults}
-use Rattle.mask.specs.declared.Outcome.{Outcome}
+use Rattle.mask.specs.Calls.{cellsOf, floatsNeeded, countersNeeded, Lent, listAnswer, drawAnswer}
+use Rattle.mask.specs.Laws.{SizeAllowed, FirstCause, RefusedExactlyWhen, ListFaults}
 use Rattle.mask.specs.declared.Outcome.the-variants.{Done, Refused}
 use Rattle.mask.proofs.Answers.{same-fault, not-done, large, allowed}
 

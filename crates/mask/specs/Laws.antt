@@ -7,7 +7,7 @@ use lib.IntN.{ℤ}
 use lib.ListN.{length, take}
 use Rattle.fault.specs.declared.Fault.{Fault}
 use Rattle.fault.specs.declared.Fault.the-variants.{MaskTooLarge, BufferTooShort, ListEndsEarly, CountOutOfRange, CoordinateOutOfRange}
-use Rattle.words.specs.Words.{Group, Read, ok, fault, readWords}
+use Rattle.words.specs.Words.{Group, ok, fault, readWords}
 use Rattle.words.specs.Writer.{wordsOf, Allowed}
 use Rattle.coverage.specs.declared.Size.{Size}
 use Rattle.mask.specs.Calls.{cellsOf, floatsNeeded, countersNeeded, Lent, drawAnswer, maskAfterDrawing, layAnswer}

@@ -63,7 +63,7 @@ fn draw_group(
         size,
         points,
         stored.count,
-        words[at] != 0,
+        words::is_even_odd_at(words, at),
     );
     stored.at
 }

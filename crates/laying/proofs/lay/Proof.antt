@@ -1,5 +1,5 @@
 -- `laying::lay` meets its contract: what is left to do is done as before, row by row. Assumes nothing.
-use mathlib.Core.Path.{_≡_, refl, sym, ap, _∙_}
+use mathlib.Core.Path.{_≡_, refl, ap, _∙_}
 use Prim.Native.Nat.{_*_, _-_}
 use native.Mathlib.Nat.{mul-comm}
 use native.Mathlib.Omega.{arith}

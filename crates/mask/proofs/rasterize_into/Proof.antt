@@ -1,10 +1,9 @@
 -- `mask::rasterize_into` meets its contract. Assumes nothing.
 use mathlib.Core.Path.{_≡_, refl, sym, _∙_}
 use mathlib.Core.Bool.{false}
-use Prim.Native.Nat.{_*_}
 use native.Mathlib.Omega.{arith}
 use lib.ListN.{length}
-use Rattle.mask.specs.Calls.{tooLarge, Lent}
+use Rattle.mask.specs.Calls.{tooLarge}
 use Rattle.mask.proofs.Answers.{size-small, cells-fit, too-large, mask-short, then-list, list-fault, list-counted}
 use borrow.Author.Needs.{needs}
 use Rattle.mask.proofs.rasterize_into.Statement.{statement}
