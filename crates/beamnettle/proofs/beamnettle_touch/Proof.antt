@@ -44,7 +44,6 @@ use Rattle.touch.specs.Touch.{pointOf, TouchRule}
 use Rattle.beamnettle.specs.Calls.{touchNumber, TouchNumber}
 use Rattle.touch.proofs.Steps.{single, tval, IsAnswer, IsSingle, own-value, has-single, has-answer, answered}
 use Rattle.shape.proofs.RoundedBox as T
-use Rattle.shape.proofs.RoundedBox.Laws as T′
 use Rattle.touch.proofs.TouchAnswer as S
 use Rattle.touch.proofs.TouchAnswer.Laws as S′
 use Rattle.touch.proofs.touch as touch
