@@ -12,6 +12,7 @@ use lib.Dec.{ltb}
 use lib.IntN.{ℤ, pos, negsuc, _+ℤ_}
 use lib.ListN.{length, getD, take, drop, replicate, length-take, length-drop, length-replicate, getD-replicate, drop-of-length-le, take-append-drop}
 use lib.Seq.{drop-drop, ext-getD, getD-take, getD-drop}
+use Rattle.edge.proofs.StartRows.{and-no}
 use Rattle.coverage.specs.declared.Size.{Size}
 use Rattle.coverage.specs.Drawing.{rowsFrom}
 use Rattle.coverage.specs.Resolving.{rowsChanged}
@@ -39,13 +40,9 @@ above size other cell x (pos m) n h = absurd (omega arith)
 above size other cell (pos k) (negsuc m) n h = rw (lt-ltb n (suc m) h) refl
 above size other cell (negsuc k) (negsuc m) n h = refl
 
-and-false : (b : Bool) → (b && false) ≡ false
-and-false true = refl
-and-false false = refl
-
 -- past the last row there is none
 below : (size : Size) (other : List ℕ) (cell : ℕ) (x : ℤ) (n : ℕ) → size .height ≤ n → metAt size other cell x (pos n) ≡ 0
-below size other cell (pos k) n h = rw (le-ltb n (size .height) h, and-false (ltb k (size .width))) refl
+below size other cell (pos k) n h = rw (le-ltb n (size .height) h, and-no (ltb k (size .width))) refl
 below size other cell (negsuc k) n h = refl
 
 pub row-room : (k width height n : ℕ) → k < height → width * height ≤ n → k * width + width ≤ n

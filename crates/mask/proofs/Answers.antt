@@ -14,6 +14,7 @@ use lib.Seq.{length-take-le}
 use borrow.Author.Tests.{ltb-true, ltb-false, lt-ltb, le-ltb}
 use Rattle.fault.specs.declared.Fault.{Fault}
 use Rattle.fault.specs.declared.Fault.the-variants.{MaskTooLarge, BufferTooShort}
+use Rattle.row.proofs.Clip.{or-true}
 use Rattle.words.specs.Words.{pointsIn, readWords, groupsOf}
 use Rattle.words.specs.Scan.{Fine, scanOf}
 use Rattle.words.specs.declared.Scan.the-variants as scan
@@ -25,10 +26,6 @@ use Rattle.mask.specs.Calls.{cellsOf, tooLarge, Lent, floatsNeeded, coun
 use Rattle.mask.specs.Laws.{TooLarge, SizeAllowed}
 use Rattle.mask.specs.declared.Outcome.{Outcome}
 use Rattle.mask.specs.declared.Outcome.the-variants.{Done, Refused}
-
-or-right : (b : Bool) → (b || true) ≡ true
-or-right true = refl
-or-right false = refl
 
 or-both : (a b : Bool) → a ≡ false → b ≡ false → (a || b) ≡ false
 or-both a b e f = rw (e, f) refl
@@ -52,7 +49,7 @@ module _ (size : Size) (lent : Lent) (ws : List ℤ) (points : ℕ) (fine : Fine
   pub counters-short : lent .counters < (size .width + 63) / 64 + size .height + 1 → Refused BufferTooShort ≡ listAnswer size lent (readWords ws)
   counters-short h =
       let a = ltb (lent .floats) (floatsNeeded size (groupsOf ws)) in
-      sym (scratch ∙ ap (λ (b : Bool). cond (a || b) (Refused BufferTooShort) Done) (lt-ltb (lent .counters) (countersNeeded size) h) ∙ ap (λ (b : Bool). cond b (Refused BufferTooShort) Done) (or-right a))
+      sym (scratch ∙ ap (λ (b : Bool). cond (a || b) (Refused BufferTooShort) Done) (lt-ltb (lent .counters) (countersNeeded size) h) ∙ ap (λ (b : Bool). cond b (Refused BufferTooShort) Done) (or-true a))
 
   pub scratch-enough : size .width + 15 * points ≤ lent .floats → (size .width + 63) / 64 + size .height + 1 ≤ lent .counters → Done ≡ listAnswer size lent (readWords ws)
   scratch-enough h k =
@@ -89,7 +86,7 @@ allowed size s = rw (le-ltb 4096 (size .width) (s .0), le-ltb 4096 (size .height
 
 pub large : (size : Size) → TooLarge size → tooLarge size ≡ true
 large size (inl h) = rw (lt-ltb 4096 (size .width) h) refl
-large size (inr h) = rw (lt-ltb 4096 (size .height) h) (or-right (ltb 4096 (size .width)))
+large size (inr h) = rw (lt-ltb 4096 (size .height) h) (or-true (ltb 4096 (size .width)))
 
 pub cells-fit : (size : Size) → tooLarge size ≡ false → size .width * size .height ≤ 16777216
 cells-fit size e = let s = size-small size e in mul-le-mul (s .0) (s .1)
@@ -123,7 +120,7 @@ module _ (size otherSize : Size) (mask other : ℕ) where
   own-too-large e = sym (ap (λ (b : Bool). then-lent b (tooLarge otherSize)) e)
 
   pub other-too-large : tooLarge otherSize ≡ true → Refused MaskTooLarge ≡ layAnswer size otherSize mask other
-  other-too-large e = sym (ap (then-lent (tooLarge size)) e ∙ ap (λ (b : Bool). cond b (Refused MaskTooLarge) (then-lent false false)) (or-right (tooLarge size)))
+  other-too-large e = sym (ap (then-lent (tooLarge size)) e ∙ ap (λ (b : Bool). cond b (Refused MaskTooLarge) (then-lent false false)) (or-true (tooLarge size)))
 
   module _ (small : tooLarge size ≡ false) (otherSmall : tooLarge otherSize ≡ false) where
     both-small : layAnswer size otherSize mask other ≡ then-lent false false
@@ -133,7 +130,7 @@ module _ (size otherSize : Size) (mask other : ℕ) where
     own-short h = sym (both-small ∙ rw (lt-ltb mask (cellsOf size) h) refl)
 
     pub other-short : other < cellsOf otherSize → Refused BufferTooShort ≡ layAnswer size otherSize mask other
-    other-short h = sym (both-small ∙ rw (lt-ltb other (cellsOf otherSize) h, or-right (ltb mask (cellsOf size))) refl)
+    other-short h = sym (both-small ∙ rw (lt-ltb other (cellsOf otherSize) h, or-true (ltb mask (cellsOf size))) refl)
 
     pub laid-done : cellsOf size ≤ mask → cellsOf otherSize ≤ other → Done ≡ layAnswer size otherSize mask other
     laid-done h k = sym (both-small ∙ rw (le-ltb mask (cellsOf size) h, le-ltb other (cellsOf otherSize) k) refl)

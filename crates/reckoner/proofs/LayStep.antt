@@ -8,11 +8,9 @@ use Rattle.fraction.proofs.Linear.{at, at-le, at-eq, le-at, add-at, scale-at, o
 use Rattle.fraction.proofs.Order.{of-eq, mul-mono, mul-nonneg, mul-comm, mul-one}
 use Rattle.fraction.proofs.Near.{near-mul}
 use Rattle.fraction.proofs.Ring.{rep, reps, ring}
+use Rattle.bound.proofs.Share.{near-nonneg}
 
 -- an allowed difference is not below 0
-pub near-nonneg : {x y e : Fraction} → Near x y e → natᶠ 0 ≤ᶠ e
-near-nonneg {x} {y} {e} h = over (x ∷ y ∷ e ∷ natᶠ 0 ∷ []) (λ N n X Y E O. le-at N O E n (omega (arith, O .is, at-le N (search at) (search at) (h .lo), at-le N (search at) (search at) (h .hi))))
-
 -- (b * d + 127) / 255, rounded down, is off by 127 / 255
 down-hi : (b d : ℕ) → natᶠ 255 *ᶠ natᶠ ((b * d + 127) / 255) ≤ᶠ natᶠ b *ᶠ natᶠ d +ᶠ natᶠ 127
 unfolding _*ᶠ_ _+ᶠ_

@@ -23,9 +23,6 @@ or-clear a b k h = or-even (a / 2 ^ k) (b / 2 ^ k) (rw or-shr at h)
 
 -- ---- a bit alone, as the code shifts it there
 
-pub one-bit : (k : ℕ) → k < 64 → 1 * 2 ^ k % 2 ^ 64 ≡ 2 ^ k
-one-bit k h = shl-exact 1 k 64 (omega arith) (omega arith) ∙ one-mul (2 ^ k)
-
 pub own-bit : (k : ℕ) → bitOf (2 ^ k) k ≡ 0 → ⊥
 own-bit k h = let e = div-self (pow-pos k) in let z : 1 % 2 ≡ 0 = rw e at h in omega arith
 

@@ -9,6 +9,7 @@ use native.Mathlib.Omega.{arith}
 use lib.Ieee.{Float}
 use lib.ListN.{length}
 use borrow.Author.Tests.{ltb-false}
+use Rattle.float.proofs.Pattern.{split}
 use Rattle.fault.specs.declared.Fault.{Fault}
 use Rattle.fault.specs.declared.Fault.the-variants as fault
 use Rattle.geometry.specs.declared.Position.{Position}
@@ -20,7 +21,7 @@ use Rattle.touch.specs.declared.TouchAnswer.{TouchAnswer}
 use Rattle.touch.specs.declared.TouchAnswer.the-variants.{Frame, NoFrame, Refused}
 use Rattle.touch.specs.Touch.{boxesCheckOf, touchCheckOf, touchesAt, FoundRule, RuleUnless}
 use Rattle.touch.specs.Laws.{FrameExactlyWhen, RefusedExactlyWhen}
-use Rattle.touch.proofs.Walking.{below-or-not, touches-past}
+use Rattle.touch.proofs.Walking.{touches-past}
 
 -- a check that passes passed in its first part
 first-passes : (c d : Check) → (c andThen d) ≡ check.Pass → c ≡ check.Pass
@@ -36,7 +37,7 @@ module _ (bs : List RoundedBox) (fringe : Float) (p : Position) where
   few e = ltb-false 256 (length bs) (few-pass _ (first-passes _ (boxesCheckOf bs) (first-passes _ (fringeCheckOf fringe) (first-passes _ (pointCheckOf p) e))))
 
   within : (k : ℕ) → touchesAt bs fringe p k ≡ true → k < length bs
-  within k e = go (below-or-not k (length bs))
+  within k e = go (split k (length bs))
     where
       go : (k < length bs) ⊎ (length bs ≤ k) → k < length bs
       go (inl l) = l

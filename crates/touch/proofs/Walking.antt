@@ -11,6 +11,7 @@ use borrow.Author.Tests.{ltb-true, ltb-false}
 use lib.Ieee.{Float, nan}
 use lib.ListN.{length, getD, drop, drop-of-length-le}
 use lib.Seq.{drop-cons}
+use Rattle.float.proofs.Pattern.{split}
 use Rattle.fault.specs.declared.Fault.the-variants as fault
 use Rattle.geometry.specs.declared.Position.{Position}
 use Rattle.shape.specs.declared.RoundedBox.{RoundedBox}
@@ -28,13 +29,6 @@ abbrev pub noBox : RoundedBox
 noBox = record { frame = record { a = nan; b = nan; c = nan; d = nan; x = nan; y = nan }; ex = nan; ey = nan; rx = nan; ry = nan }
 
 -- ---- places
-below : (k i : ℕ) (t : Bool) → ltb k i ≡ t → (k < i) ⊎ (i ≤ k)
-below k i true e = inl (ltb-true k i e)
-below k i false e = inr (ltb-false k i e)
-
-pub below-or-not : (k i : ℕ) → (k < i) ⊎ (i ≤ k)
-below-or-not k i = below k i (ltb k i) refl
-
 touches-at : (bs : List RoundedBox) (fringe : Float) (p : Position) (i : ℕ) → i < length bs → touchesAt bs fringe p i ≡ touchesOf (getD bs i noBox) fringe p
 touches-at [] fringe p i h = absurd (not-suc-le-zero h)
 touches-at (b ∷ bs) fringe p zero h = refl
@@ -85,7 +79,7 @@ module _ (bs : List RoundedBox) (fringe : Float) (p : Position) where
     left c e h = h ∙ (ap boxesCheckOf (drop-cons bs i noBox l) ∙ ap (λ (c : Check). c andThen boxesCheckOf (drop (suc i) bs)) e)
 
     untouched : touchesOf box fringe p ≡ false → ((k : ℕ) → k < i → touchesAt bs fringe p k ≡ false) → (k : ℕ) → k < suc i → touchesAt bs fringe p k ≡ false
-    untouched e h k m = go (below-or-not k i)
+    untouched e h k m = go (split k i)
       where
         go : (k < i) ⊎ (i ≤ k) → touchesAt bs fringe p k ≡ false
         go (inl b) = h k b
@@ -112,7 +106,7 @@ module _ (bs : List RoundedBox) (fringe : Float) (p : Position) where
     passed h e = e ∙ ap boxesCheckOf (drop-of-length-le bs h)
 
     none : length bs ≤ i → ((k : ℕ) → k < i → touchesAt bs fringe p k ≡ false) → (k : ℕ) → touchesAt bs fringe p k ≡ false
-    none h n k = go (below-or-not k i)
+    none h n k = go (split k i)
       where
         go : (k < i) ⊎ (i ≤ k) → touchesAt bs fringe p k ≡ false
         go (inl b) = n k b
