@@ -8,7 +8,7 @@ use native.Mathlib.Nat.{not-suc-le-zero, le-of-suc-le-suc, not-le-of-lt}
 use native.Mathlib.Omega.{arith}
 use lib.Dec.{T, ltb, eqb, eqb→eq, ltb→lt, nltb→le, lt→ltb, eqb-refl, eqb·suc-suc, eqb·zero-suc, eqb·suc-zero, T-not, not-T}
 use lib.Ieee.Bits.{is-true, is-false}
-use lib.ListN.{length, getD, set, length-set}
+use lib.ListN.{length, getD, set}
 use lib.Ieee.{Float, nan, binary32, fits, ne}
 use lib.Ieee.Scale.{finite}
 use Rattle.fraction.specs.Fraction.{Fraction, _≤ᶠ_, _≈ᶠ_, natᶠ, _+ᶠ_, absᶠ, Within}

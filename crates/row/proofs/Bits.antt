@@ -1,7 +1,7 @@
 -- Bits of a word: after an or with another word, and of a run of ones. Assumes nothing.
 use mathlib.Core.Path.{_≡_, sym, ap, _∙_}
 use Prim.Native.Nat.{ℕ, suc, _+_, _-_, _*_, _/_, _%_, _^_, _≤_, _<_, max}
-use native.Mathlib.Nat.{le-max-left, le-max-right, max-le, one-mul, div-self, pow-suc}
+use native.Mathlib.Nat.{le-max-left, le-max-right, max-le, div-self, pow-suc}
 use native.Mathlib.Omega.{arith}
 use lib.Bits.{bitOr, or-step, or-shr}
 use lib.Pow.{pow-pos, shl-exact, shl-shr, shr-shr, ones-lt, ones-split, high}
