@@ -88,7 +88,7 @@ pub extern "C" fn beamnettle_lay(
     ensures number { λ r. ⌜ r ≡ outcomeNumber (layAnswer (record { width = width; height = height }) (record { width = «other_width»; height = «other_height» }) (length (now (mask .entry))) (length (now (other .entry)))) ⌝ }
     ensures cells { λ _. ⌜ now (mask .exit) ≡ maskAfterLaying (layAnswer (record { width = width; height = height }) (record { width = «other_width»; height = «other_height» }) (length (now (mask .entry))) (length (now (other .entry)))) (record { width = width; height = height }) (record { width = «other_width»; height = «other_height» }) (record { x = «offset_x»; y = «offset_y» }) (now (mask .entry)) (now (other .entry)) ⌝ }
 {
-    let size = Size { width, height };
+    let own_size = Size { width, height };
     let other_size = Size {
         width: other_width,
         height: other_height,
@@ -97,7 +97,7 @@ pub extern "C" fn beamnettle_lay(
         x: offset_x,
         y: offset_y,
     };
-    outcome_number(mask::intersect(mask, size, other, other_size, offset))
+    outcome_number(mask::intersect(mask, own_size, other, other_size, offset))
 }
 
 // ---- lent floats

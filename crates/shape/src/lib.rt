@@ -159,10 +159,7 @@ impl Check {
     pub fn in_range(x: f32) -> bool
         ensures { λ r. ⌜ r ≡ inRangeOf x ⌝ }
     {
-        if float::is_finite(x) {
-            return float::abs(x) <= Self::LARGEST_NUMBER;
-        }
-        false
+        float::abs(x) <= Self::LARGEST_NUMBER
     }
 
     fn both_in_range(x: f32, y: f32) -> bool
