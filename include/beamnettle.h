@@ -26,7 +26,7 @@ enum {
     BEAMNETTLE_NUMBER_OUT_OF_RANGE = 1,     /* a number is not finite, or its size is over 2^20 */
     BEAMNETTLE_IMPROPER_BOX = 2,            /* a half extent or radius below 0, or a radius over its half extent */
     BEAMNETTLE_MASK_TOO_LARGE = 3,          /* a mask width or height over 4,096 */
-    BEAMNETTLE_BUFFER_TOO_SHORT = 4,        /* mask, scratch or lent floats too short */
+    BEAMNETTLE_BUFFER_TOO_SHORT = 4,        /* mask, other mask, scratch or lent floats too short */
     BEAMNETTLE_LIST_ENDS_EARLY = 5,         /* a word list ends inside a group */
     BEAMNETTLE_COUNT_OUT_OF_RANGE = 6,      /* a count word below 0, or points passing 2,048 in the list */
     BEAMNETTLE_COORDINATE_OUT_OF_RANGE = 7, /* a coordinate word beyond +-1,048,576 */
@@ -38,12 +38,22 @@ enum {
     /* done, and: */
     BEAMNETTLE_NONE = 13, /* there is no box, or no coverage */
     BEAMNETTLE_YES = 14,
-    BEAMNETTLE_NO = 15
+    BEAMNETTLE_NO = 15,
+    /* beamnettle_touch alone: */
+    BEAMNETTLE_NO_FRAME = 16,
+    BEAMNETTLE_FIRST_PLACE = 256 /* the box at place k, counted from 0, is 256 + k */
 };
 
 /* How many floats there are in a box (frame a b c d x y, half extents, radii), a frame, a coverage
  * (linear part by rows, offset, half extents, radii, strays) and bounds (least x, least y, most x, most y). */
 enum { BEAMNETTLE_BOX = 10, BEAMNETTLE_FRAME = 6, BEAMNETTLE_COVERAGE = 11, BEAMNETTLE_BOUNDS = 4 };
+
+/* A box of a touch list: the same ten floats, in the same order. */
+struct beamnettle_box {
+    float a, b, c, d, x, y;
+    float extent_x, extent_y;
+    float radius_x, radius_y;
+};
 
 /* Draws a word list into the first width * height bytes of a mask, rows first; later bytes are not
  * changed. A group is a rule word (0 non-zero, else even-odd), a count of contours, then per contour a
@@ -54,6 +64,14 @@ enum { BEAMNETTLE_BOX = 10, BEAMNETTLE_FRAME = 6, BEAMNETTLE_COVERAGE = 11, BEAM
 uint8_t beamnettle_draw(uint8_t *mask, size_t mask_length, size_t width, size_t height, const int32_t *words,
                         size_t words_length, float *floats, size_t floats_length, uint64_t *counters,
                         size_t counters_length);
+
+/* Lays the other mask on a mask: cell (column, row) meets the other's cell (column + offset_x,
+ * row + offset_y) and becomes (cell * other + 127) / 255, rounded down, or 0 where the other has no such
+ * cell. Later bytes than width * height are not changed, nor is the other mask.
+ * Returns 0, or 3 (either size), then 4 (the mask, then the other). */
+uint8_t beamnettle_lay(uint8_t *mask, size_t mask_length, size_t width, size_t height, const uint8_t *other,
+                       size_t other_length, size_t other_width, size_t other_height, int32_t offset_x,
+                       int32_t offset_y);
 
 /* The box that a straight outline draws. Verbs: 0 move to, 1 line to, 3 solid, 4 hole, 5 close; the
  * first two take a position of two floats each. Writes a box to out.
@@ -92,6 +110,12 @@ uint8_t beamnettle_parallel(const float *one, size_t one_length, const float *tw
 
 /* Whether a coverage, of any floats, holds all of a box. Returns 14 or 15, or 1 or 2. */
 uint8_t beamnettle_contains(const float *coverage, size_t coverage_length, const float *box, size_t box_length);
+
+/* The place of some box that a point touches: one whose coverage exists and whose distance at the point is
+ * at most 0. At most 256 boxes are taken.
+ * Returns 256 + the place, counted from 0; 16 where there is no such box; or 12, then 1 or 2 for each box in
+ * order, then 1 for the fringe or the point. */
+uint32_t beamnettle_touch(const struct beamnettle_box *boxes, size_t boxes_length, float fringe, float x, float y);
 
 #ifdef __cplusplus
 }

@@ -1,32 +1,77 @@
-//! A list's answers, by femtovg. The list is taken to be well formed.
+//! A list's answers, by femtovg. Of a bad line it says what is wrong, as the program `calls` does.
 use femtovg::calls::{self, Drawing};
 use std::str::SplitWhitespace;
 
 #[derive(Default)]
 pub struct State {
-    run: Vec<u8>,
-    next: Vec<u8>,
+    /// the running mask's buffer and the next one's
+    buffers: [Vec<u8>; 2],
     drawing: Drawing,
 }
 
-fn number<T: std::str::FromStr>(fields: &mut SplitWhitespace) -> T {
-    fields.next().and_then(|f| f.parse().ok()).expect("a number")
+/// What is wrong with a line.
+pub type Bad = &'static str;
+
+const UNKNOWN_CALL: Bad = "no call has this name";
+const UNKNOWN_BUFFER: Bad = "the buffers are 'run' and 'next'";
+const MISSING: Bad = "the line ends where a field should stand";
+const TOO_MANY: Bad = "the call takes no more fields";
+const NOT_A_NUMBER: Bad = "a decimal number is missing, badly written or too large";
+const NOT_A_FLOAT: Bad = "a float is not written as eight hexadecimal digits";
+const NOT_HEX: Bad = "the bytes are not written as pairs of hexadecimal digits";
+const NOT_A_BYTE: Bad = "a verb or a byte is not a decimal number up to 255";
+const BUFFER_TOO_LONG: Bad = "a buffer has at most 65,536 bytes";
+const TOO_MANY_FLOATS: Bad = "a line takes at most 2,573 floats";
+const TOO_MANY_VERBS: Bad = "an outline's line takes at most 512 verbs";
+const TOO_MANY_BOXES: Bad = "a touch list's line takes at most 257 boxes";
+
+/// The largest number that the program reads.
+pub const LARGEST: usize = 2_684_354_559;
+
+type Fields<'a> = SplitWhitespace<'a>;
+
+fn number(f: &mut Fields) -> Result<usize, Bad> {
+    let field = f.next().unwrap_or_default();
+    let number = field.parse().ok().filter(|n| *n <= LARGEST);
+    number.ok_or(NOT_A_NUMBER)
 }
 
-fn float(field: &str) -> f32 {
-    f32::from_bits(u32::from_str_radix(field, 16).expect("a float"))
+fn word(field: &str) -> Result<i32, Bad> {
+    field.parse().map_err(|_| NOT_A_NUMBER)
 }
 
-fn floats<const N: usize>(fields: &mut SplitWhitespace) -> [f32; N] {
-    std::array::from_fn(|_| float(fields.next().expect("a float")))
+fn float(f: &mut Fields) -> Result<f32, Bad> {
+    let field = f.next().ok_or(MISSING)?;
+    let bits = u32::from_str_radix(field, 16).map_err(|_| NOT_A_FLOAT)?;
+    if field.len() != 8 {
+        return Err(NOT_A_FLOAT);
+    }
+    Ok(f32::from_bits(bits))
+}
+
+fn floats<const N: usize>(f: &mut Fields) -> Result<[f32; N], Bad> {
+    let mut floats = [0.0; N];
+    for place in &mut floats {
+        *place = float(f)?;
+    }
+    Ok(floats)
+}
+
+fn ended(f: &mut Fields) -> Result<(), Bad> {
+    f.next().map_or(Ok(()), |_| Err(TOO_MANY))
 }
 
 fn hex(x: f32) -> String {
-    format!(" {:08x}", if x.is_nan() { 0x7fc0_0000 } else { x.to_bits() })
+    format!(
+        " {:08x}",
+        if x.is_nan() { 0x7fc0_0000 } else { x.to_bits() }
+    )
 }
 
 fn named(name: &str, numbers: &[f32]) -> String {
-    numbers.iter().fold(name.to_string(), |text, x| text + &hex(*x))
+    numbers
+        .iter()
+        .fold(name.to_string(), |text, x| text + &hex(*x))
 }
 
 fn answered<T>(answer: Result<T, u8>, text: impl Fn(T) -> String) -> String {
@@ -34,6 +79,10 @@ fn answered<T>(answer: Result<T, u8>, text: impl Fn(T) -> String) -> String {
         Ok(value) => text(value),
         Err(number) => format!("refused {number}"),
     }
+}
+
+fn done(answer: Result<(), u8>) -> String {
+    answered(answer, |()| "done".to_string())
 }
 
 fn maybe<const N: usize>(name: &'static str) -> impl Fn(Option<[f32; N]>) -> String {
@@ -44,56 +93,148 @@ fn yes(holds: bool) -> String {
     if holds { "yes" } else { "no" }.to_string()
 }
 
-fn fit(fields: &mut SplitWhitespace) -> String {
-    let verbs: Vec<u8> = (0..number(fields)).map(|_: usize| number(fields)).collect();
-    let positions: Vec<f32> = (0..number(fields)).map(|_: usize| float(fields.next().expect("a float"))).collect();
-    answered(calls::fit(&verbs, &positions), maybe("box"))
+fn verb(f: &mut Fields) -> Result<u8, Bad> {
+    let field = f.next().ok_or(MISSING)?;
+    field.parse().map_err(|_| NOT_A_BYTE)
+}
+
+fn fit(f: &mut Fields) -> Result<String, Bad> {
+    let count = number(f)?;
+    if count > 512 {
+        return Err(TOO_MANY_VERBS);
+    }
+    let verbs = (0..count)
+        .map(|_| verb(f))
+        .collect::<Result<Vec<u8>, _>>()?;
+    let count = number(f)?;
+    if count > 2573 {
+        return Err(TOO_MANY_FLOATS);
+    }
+    let positions = (0..count)
+        .map(|_| float(f))
+        .collect::<Result<Vec<f32>, _>>()?;
+    ended(f)?;
+    Ok(answered(calls::fit(&verbs, &positions), maybe("box")))
+}
+
+/// The first place is answered: document 01 leaves free which, and the program answers the first.
+fn touch(f: &mut Fields) -> Result<String, Bad> {
+    let count = number(f)?;
+    if count > 257 {
+        return Err(TOO_MANY_BOXES);
+    }
+    let boxes = (0..count)
+        .map(|_| floats(f))
+        .collect::<Result<Vec<[f32; 10]>, _>>()?;
+    let (fringe, point) = (float(f)?, floats(f)?);
+    ended(f)?;
+    Ok(answered(calls::touch(&boxes, fringe, point), |places| {
+        let place = places.first();
+        place.map_or("noframe".to_string(), |place| format!("frame {place}"))
+    }))
+}
+
+/// The answer to a call on boxes; its fields are read whole before it.
+fn on_boxes(name: &str, f: &mut Fields) -> Result<String, Bad> {
+    let answer = match name {
+        "transformed" => answered(calls::transformed(floats(f)?, floats(f)?), |b| {
+            named("box", &b)
+        }),
+        "intersection" => {
+            let (one, two, fringe) = (floats(f)?, floats(f)?, float(f)?);
+            answered(calls::intersection(one, two, fringe), maybe("box"))
+        }
+        "rect_intersection" => {
+            let (one, two) = (floats(f)?, floats(f)?);
+            answered(calls::rect_intersection(one, two), maybe("box"))
+        }
+        "coverage" => answered(calls::coverage(floats(f)?, float(f)?), maybe("cov")),
+        "parallel" => answered(calls::parallel(floats(f)?, floats(f)?), yes),
+        "contains" => answered(calls::contains(floats(f)?, floats(f)?), yes),
+        "bounds" => answered(calls::bounds(floats(f)?), |b| named("bounds", &b)),
+        "distance" => answered(calls::distance(floats(f)?, floats(f)?), |d| {
+            named("float", &[d])
+        }),
+        _ => return Err(UNKNOWN_CALL),
+    };
+    ended(f)?;
+    Ok(answer)
+}
+
+fn bytes(text: &str) -> Result<Vec<u8>, Bad> {
+    if text.len() % 2 != 0 {
+        return Err(NOT_HEX);
+    }
+    (0..text.len())
+        .step_by(2)
+        .map(|at| u8::from_str_radix(&text[at..at + 2], 16).map_err(|_| NOT_HEX))
+        .collect()
+}
+
+/// Which buffer is named.
+fn named_buffer(f: &mut Fields) -> Result<usize, Bad> {
+    match f.next() {
+        Some("run") => Ok(0),
+        Some("next") => Ok(1),
+        _ => Err(UNKNOWN_BUFFER),
+    }
 }
 
 impl State {
-    fn buffer(&mut self, fields: &mut SplitWhitespace) -> &mut Vec<u8> {
-        match fields.next() {
-            Some("run") => &mut self.run,
-            Some("next") => &mut self.next,
-            _ => panic!("no buffer"),
+    fn set(&mut self, f: &mut Fields) -> Result<String, Bad> {
+        let buffer = &mut self.buffers[named_buffer(f)?];
+        let text = f.next().ok_or(MISSING)?;
+        let held = bytes(if text == "-" { "" } else { text })?;
+        ended(f)?;
+        *buffer = held;
+        Ok(done(Ok(())))
+    }
+
+    fn fill(&mut self, f: &mut Fields) -> Result<String, Bad> {
+        let buffer = &mut self.buffers[named_buffer(f)?];
+        let (length, byte) = (number(f)?, number(f)?);
+        if length > 65_536 {
+            return Err(BUFFER_TOO_LONG);
         }
+        let byte = byte.try_into().map_err(|_| NOT_A_BYTE)?;
+        ended(f)?;
+        *buffer = vec![byte; length];
+        Ok(done(Ok(())))
     }
 
-    fn set(&mut self, f: &mut SplitWhitespace) -> String {
-        let buffer = self.buffer(f);
-        let text = f.next().expect("bytes").trim_matches('-');
-        *buffer = (0..text.len()).step_by(2).map(|i| u8::from_str_radix(&text[i..i + 2], 16).expect("a byte")).collect();
-        "done".to_string()
-    }
-
-    fn fill(&mut self, f: &mut SplitWhitespace) -> String {
-        let buffer = self.buffer(f);
-        let length = number(f);
-        *buffer = vec![number(f); length];
-        "done".to_string()
-    }
-
-    fn show(&mut self, f: &mut SplitWhitespace) -> String {
-        let buffer = self.buffer(f);
+    fn show(&mut self, f: &mut Fields) -> Result<String, Bad> {
+        let buffer = &mut self.buffers[named_buffer(f)?];
+        ended(f)?;
         if buffer.is_empty() {
-            return "-".to_string();
+            return Ok("-".to_string());
         }
-        buffer.iter().map(|b| format!("{b:02x}")).collect()
+        Ok(buffer.iter().map(|b| format!("{b:02x}")).collect())
     }
 
-    fn draw(&mut self, f: &mut SplitWhitespace) -> String {
-        let Self { run, next, drawing } = self;
-        let buffer = if f.next() == Some("run") { run } else { next };
-        let size = [number(f), number(f)];
-        let (floats, counters) = (number(f), number(f));
-        let words: Vec<i32> = f.map(|w| w.parse().expect("a word")).collect();
-        answered(Drawing::check(size, &words, [buffer.len(), floats, counters]).map(|()| {
-            let cells = drawing.cells(size, words);
+    fn draw(&mut self, f: &mut Fields) -> Result<String, Bad> {
+        let buffer = &mut self.buffers[named_buffer(f)?];
+        let size = [number(f)?, number(f)?];
+        let lent = [buffer.len(), number(f)?, number(f)?];
+        let words = f.map(word).collect::<Result<Vec<i32>, _>>()?;
+        let answer = Drawing::check(size, &words, lent);
+        if answer.is_ok() {
+            let cells = self.drawing.cells(size, words);
             buffer[..cells.len()].copy_from_slice(cells);
-        }), |()| "done".to_string())
+        }
+        Ok(done(answer))
     }
 
-    pub fn answer(&mut self, line: &str) -> String {
+    fn lay(&mut self, f: &mut Fields) -> Result<String, Bad> {
+        let size = [number(f)?, number(f)?];
+        let other_size = [number(f)?, number(f)?];
+        let mut by = || word(f.next().unwrap_or_default());
+        let offset = [by()?, by()?];
+        ended(f)?;
+        let [run, next] = &mut self.buffers;
+        Ok(done(calls::lay(run, size, next, other_size, offset)))
+    }
+
+    pub fn answer(&mut self, line: &str) -> Result<String, Bad> {
         let mut fields = line.split_whitespace();
         let f = &mut fields;
         match f.next().expect("a call") {
@@ -101,16 +242,10 @@ impl State {
             "bufn" => self.fill(f),
             "show" => self.show(f),
             "draw" => self.draw(f),
+            "lay" => self.lay(f),
             "fit" => fit(f),
-            "transformed" => answered(calls::transformed(floats(f), floats(f)), |b| named("box", &b)),
-            "intersection" => answered(calls::intersection(floats(f), floats(f), floats::<1>(f)[0]), maybe("box")),
-            "rect_intersection" => answered(calls::rect_intersection(floats(f), floats(f)), maybe("box")),
-            "coverage" => answered(calls::coverage(floats(f), floats::<1>(f)[0]), maybe("cov")),
-            "parallel" => answered(calls::parallel(floats(f), floats(f)), yes),
-            "contains" => answered(calls::contains(floats(f), floats(f)), yes),
-            "bounds" => answered(calls::bounds(floats(f)), |b| named("bounds", &b)),
-            "distance" => answered(calls::distance(floats(f), floats(f)), |d| named("float", &[d])),
-            name => panic!("no call {name}"),
+            "touch" => touch(f),
+            name => on_boxes(name, f),
         }
     }
 }

@@ -1,7 +1,9 @@
 //! `calls list` writes the fixed list of calls; `calls answer` answers a list from standard input
 //! by femtovg, behind document 01's refusals; `calls count` says how many calls of each kind a list has.
 mod answer;
+mod chains;
 mod list;
+mod touches;
 
 use std::{
     collections::BTreeMap,
@@ -11,13 +13,19 @@ use std::{
 
 fn read() -> String {
     let mut text = String::new();
-    io::stdin().read_to_string(&mut text).expect("a list of calls");
+    io::stdin()
+        .read_to_string(&mut text)
+        .expect("a list of calls");
     text
 }
 
 fn count(text: &str) {
     let mut kinds = BTreeMap::new();
-    for name in text.lines().filter(|l| !l.starts_with('#')).filter_map(|l| l.split_whitespace().next()) {
+    for name in text
+        .lines()
+        .filter(|l| !l.starts_with('#'))
+        .filter_map(|l| l.split_whitespace().next())
+    {
         *kinds.entry(name).or_insert(0) += 1;
     }
     for (name, n) in &kinds {
@@ -32,8 +40,13 @@ fn main() {
         Some("list") => out.write_all(list::list().as_bytes()).expect("written"),
         Some("answer") => {
             let mut state = answer::State::default();
-            for line in read().lines().filter(|l| !l.trim().is_empty() && !l.starts_with('#')) {
-                writeln!(out, "{}", state.answer(line)).expect("written");
+            for (at, line) in read().lines().enumerate() {
+                if line.trim().is_empty() || line.starts_with('#') {
+                    continue;
+                }
+                let answer = state.answer(line);
+                let text = answer.unwrap_or_else(|bad| format!("line {}: {bad}", at + 1));
+                writeln!(out, "{text}").expect("written");
             }
         }
         Some("count") => count(&read()),

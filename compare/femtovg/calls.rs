@@ -29,6 +29,7 @@ const VERB: Refused = 8;
 const POSITIONS: Refused = 9;
 const CURVE: Refused = 10;
 const VERBS: Refused = 11;
+const BOXES: Refused = 12;
 
 const LARGEST: f32 = 1_048_576.0;
 
@@ -281,4 +282,19 @@ pub fn distance(c: Coverage11, point: [f32; 2]) -> Result<f32, Refused> {
 pub fn contains(c: Coverage11, b: Box10) -> Result<bool, Refused> {
     check_box(&b)?;
     Ok(covering(&c).contains(&boxed(b)))
+}
+
+/// The places of all boxes that a point touches.
+pub fn touch(boxes: &[Box10], fringe: f32, point: [f32; 2]) -> Result<Vec<usize>, Refused> {
+    if boxes.len() > 256 {
+        return Err(BOXES);
+    }
+    boxes.iter().try_for_each(check_box)?;
+    check(fringe)?;
+    check_all(&point)?;
+    let touches = |at: &usize| {
+        let coverage = boxed(boxes[*at]).coverage(fringe);
+        coverage.is_some_and(|coverage| coverage.distance(point) <= 0.0)
+    };
+    Ok((0..boxes.len()).filter(touches).collect())
 }

@@ -39,11 +39,19 @@ fn same64(a: f64, b: f64) -> bool {
 
 // The meanings of document 01 that Rust has no operation for.
 fn larger(x: f32, y: f32) -> f32 {
-    if x.is_nan() || y > x { y } else { x }
+    if x.is_nan() || y > x {
+        y
+    } else {
+        x
+    }
 }
 
 fn smaller(x: f32, y: f32) -> f32 {
-    if x.is_nan() || y < x { y } else { x }
+    if x.is_nan() || y < x {
+        y
+    } else {
+        x
+    }
 }
 
 fn two_step_hypot(x: f32, y: f32) -> f32 {
@@ -51,12 +59,64 @@ fn two_step_hypot(x: f32, y: f32) -> f32 {
     (x * x + y * y).sqrt() as f32
 }
 
-struct Report {
+// How far one function's comparison is.
+#[derive(Default)]
+struct Progress {
+    next: AtomicU64,
+    done: AtomicU64,
+    differ: AtomicU64,
+}
+
+impl Progress {
+    // Asks `same` of numbers below `count`, a chunk at a time, while there are any.
+    fn work(&self, count: u64, same: impl Fn(u64) -> bool, tell: impl Fn(u64)) {
+        loop {
+            let from = self.next.fetch_add(CHUNK, Ordering::Relaxed);
+            if from >= count {
+                return;
+            }
+            let to = count.min(from + CHUNK);
+            for i in from..to {
+                if !same(i) && self.differ.fetch_add(1, Ordering::Relaxed) < SHOWN {
+                    tell(i);
+                }
+            }
+            self.done.fetch_add(to - from, Ordering::Relaxed);
+        }
+    }
+
+    // Shows how far it is until it is done.
+    fn watch(&self, name: &str, count: u64) {
+        let terminal = std::io::stderr().is_terminal();
+        let mut told = 0;
+        loop {
+            let done = self.done.load(Ordering::Relaxed);
+            let percent = done * 100 / count;
+            if terminal {
+                eprint!("\r{name} {percent}%   ");
+            } else if percent >= told + 25 {
+                told = percent;
+                eprintln!("{name} {percent}%");
+            }
+            if done == count {
+                break;
+            }
+            std::thread::sleep(Duration::from_millis(20));
+        }
+        if terminal {
+            eprint!("\r                         \r");
+        }
+    }
+}
+
+struct Comparison {
+    // every f32, or a sample
+    long: bool,
     compared: u64,
     differ: u64,
 }
 
-impl Report {
+impl Comparison {
     // Asks `same` of 0 to count - 1, on all threads; `shown` writes the input of a number that differs.
     fn run(
         &mut self,
@@ -65,50 +125,70 @@ impl Report {
         same: impl Fn(u64) -> bool + Sync,
         shown: impl Fn(u64) -> String + Sync,
     ) {
-        let next = AtomicU64::new(0);
-        let done = AtomicU64::new(0);
-        let differ = AtomicU64::new(0);
+        let progress = Progress::default();
+        let tell = |i| println!("{name} differs at {}", shown(i));
         let began = Instant::now();
         std::thread::scope(|s| {
             for _ in 0..THREADS {
-                s.spawn(|| loop {
-                    let from = next.fetch_add(CHUNK, Ordering::Relaxed);
-                    if from >= count {
-                        break;
-                    }
-                    let to = count.min(from + CHUNK);
-                    for i in from..to {
-                        if !same(i) && differ.fetch_add(1, Ordering::Relaxed) < SHOWN {
-                            println!("{name} differs at {}", shown(i));
-                        }
-                    }
-                    done.fetch_add(to - from, Ordering::Relaxed);
-                });
+                s.spawn(|| progress.work(count, &same, tell));
             }
-            let terminal = std::io::stderr().is_terminal();
-            let mut told = 0;
-            loop {
-                let d = done.load(Ordering::Relaxed);
-                let percent = d * 100 / count;
-                if terminal {
-                    eprint!("\r{name} {percent}%   ");
-                } else if percent >= told + 25 {
-                    told = percent;
-                    eprintln!("{name} {percent}%");
-                }
-                if d == count {
-                    break;
-                }
-                std::thread::sleep(Duration::from_millis(20));
-            }
-            if terminal {
-                eprint!("\r                         \r");
-            }
+            progress.watch(name, count);
         });
-        let differ = differ.into_inner();
-        println!("{name:<12}{count:>12}{:>10.1}", began.elapsed().as_secs_f64());
+        let seconds = began.elapsed().as_secs_f64();
+        println!("{name:<12}{count:>12}{seconds:>10.1}");
         self.compared += count;
-        self.differ += differ;
+        self.differ += progress.differ.into_inner();
+    }
+
+    fn singles(&mut self, name: &str, same: impl Fn(f32) -> bool + Sync) {
+        let long = self.long;
+        let x = |i: u64| {
+            if long {
+                f32::from_bits(i as u32)
+            } else {
+                single(i)
+            }
+        };
+        let count = if long { 1 << 32 } else { 1 << 22 };
+        let shown = |i| format!("{:#010x}", x(i).to_bits());
+        self.run(name, count, |i| same(x(i)), shown);
+    }
+
+    // How many pairs or f64s.
+    fn others(&self) -> u64 {
+        if self.long {
+            100_000_000
+        } else {
+            1 << 20
+        }
+    }
+
+    fn pairs(&mut self, name: &str, same: impl Fn(f32, f32) -> bool + Sync) {
+        let shown = |i| {
+            let (x, y) = pair(i);
+            format!("{:#010x} {:#010x}", x.to_bits(), y.to_bits())
+        };
+        let same = |i| {
+            let (x, y) = pair(i);
+            same(x, y)
+        };
+        self.run(name, self.others(), same, shown);
+    }
+
+    fn doubles(&mut self, name: &str, same: impl Fn(f64) -> bool + Sync) {
+        let shown = |i| format!("{:#018x}", double(i).to_bits());
+        self.run(name, self.others(), |i| same(double(i)), shown);
+    }
+
+    fn wholes(&mut self, name: &str, same: impl Fn(usize) -> bool + Sync) {
+        let (count, step) = if self.long {
+            ((1 << 24) + 1000, 1)
+        } else {
+            (1 << 16, 257)
+        };
+        let whole = |i: u64| i as usize * step;
+        let shown = |i| format!("{:#x}", whole(i));
+        self.run(name, count, |i| same(whole(i)), shown);
     }
 }
 
@@ -122,86 +202,43 @@ fn main() {
             std::process::exit(2);
         }
     };
-    // how many f32s, pairs of them and f64s, and whole numbers
-    let (ones, others, wholes) = if long {
-        (1 << 32, 100_000_000, (1 << 24) + 1000)
-    } else {
-        (1 << 22, 1 << 20, 1 << 16)
-    };
-    let x = |i: u64| if long { f32::from_bits(i as u32) } else { single(i) };
-    let show1 = |i: u64| format!("{:#010x}", x(i).to_bits());
-    let show2 = |i: u64| {
-        let (x, y) = pair(i);
-        format!("{:#010x} {:#010x}", x.to_bits(), y.to_bits())
-    };
-    let show64 = |i: u64| format!("{:#018x}", double(i).to_bits());
-    let whole = |i: u64| if long { i as usize } else { (i as usize) * 257 };
-
     println!("{:<12}{:>12}{:>10}", "function", "compared", "seconds");
-    let mut r = Report { compared: 0, differ: 0 };
+    let mut c = Comparison {
+        long,
+        compared: 0,
+        differ: 0,
+    };
     unsafe {
-        r.run("abs", ones, |i| same32(beamnettle_float_abs(x(i)), x(i).abs()), show1);
-        r.run("signum", ones, |i| same32(beamnettle_float_signum(x(i)), x(i).signum()), show1);
-        r.run("is_finite", ones, |i| beamnettle_float_is_finite(x(i)) == x(i).is_finite(), show1);
-        r.run("floor", ones, |i| same32(beamnettle_float_floor(x(i)), x(i).floor()), show1);
-        r.run("ceil", ones, |i| same32(beamnettle_float_ceil(x(i)), x(i).ceil()), show1);
-        r.run("sqrt", ones, |i| same32(beamnettle_float_sqrt(x(i)), x(i).sqrt()), show1);
-        r.run("widen", ones, |i| same64(beamnettle_float_widen(x(i)), x(i) as f64), show1);
-        r.run(
-            "to_column",
-            ones,
-            |i| beamnettle_float_to_column(x(i)) == (x(i) as usize).min(8191),
-            show1,
-        );
-        r.run("to_byte", ones, |i| beamnettle_float_to_byte(x(i)) == x(i) as u8, show1);
-        r.run(
-            "from_whole",
-            wholes,
-            |i| same32(beamnettle_float_from_whole(whole(i)), whole(i).min(1 << 24) as f32),
-            |i| format!("{:#x}", whole(i)),
-        );
-        r.run(
-            "max",
-            others,
-            |i| {
-                let (x, y) = pair(i);
-                same32(beamnettle_float_max(x, y), larger(x, y))
-            },
-            show2,
-        );
-        r.run(
-            "min",
-            others,
-            |i| {
-                let (x, y) = pair(i);
-                same32(beamnettle_float_min(x, y), smaller(x, y))
-            },
-            show2,
-        );
-        r.run(
-            "hypot",
-            others,
-            |i| {
-                let (x, y) = pair(i);
-                same32(beamnettle_float_hypot(x, y), two_step_hypot(x, y))
-            },
-            show2,
-        );
-        r.run(
-            "narrow",
-            others,
-            |i| same32(beamnettle_float_narrow(double(i)), double(i) as f32),
-            show64,
-        );
-        r.run(
-            "sqrt64",
-            others,
-            |i| same64(beamnettle_float_sqrt64(double(i)), double(i).sqrt()),
-            show64,
-        );
+        c.singles("abs", |x| same32(beamnettle_float_abs(x), x.abs()));
+        c.singles("signum", |x| same32(beamnettle_float_signum(x), x.signum()));
+        c.singles("is_finite", |x| {
+            beamnettle_float_is_finite(x) == x.is_finite()
+        });
+        c.singles("floor", |x| same32(beamnettle_float_floor(x), x.floor()));
+        c.singles("ceil", |x| same32(beamnettle_float_ceil(x), x.ceil()));
+        c.singles("sqrt", |x| same32(beamnettle_float_sqrt(x), x.sqrt()));
+        c.singles("widen", |x| same64(beamnettle_float_widen(x), x as f64));
+        c.singles("to_column", |x| {
+            beamnettle_float_to_column(x) == (x as usize).min(8191)
+        });
+        c.singles("to_byte", |x| beamnettle_float_to_byte(x) == x as u8);
+        c.wholes("from_whole", |n| {
+            same32(beamnettle_float_from_whole(n), n.min(1 << 24) as f32)
+        });
+        c.pairs("max", |x, y| {
+            same32(beamnettle_float_max(x, y), larger(x, y))
+        });
+        c.pairs("min", |x, y| {
+            same32(beamnettle_float_min(x, y), smaller(x, y))
+        });
+        c.pairs("hypot", |x, y| {
+            same32(beamnettle_float_hypot(x, y), two_step_hypot(x, y))
+        });
+        c.doubles("narrow", |x| same32(beamnettle_float_narrow(x), x as f32));
+        c.doubles("sqrt64", |x| same64(beamnettle_float_sqrt64(x), x.sqrt()));
     }
-    println!("{} compared, {} differ", r.compared, r.differ);
-    if r.differ > 0 {
+    println!("{} compared, {} differ", c.compared, c.differ);
+    if c.differ > 0 {
         std::process::exit(1);
     }
 }

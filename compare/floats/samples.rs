@@ -112,21 +112,29 @@ pub fn pair(i: u64) -> (f32, f32) {
         }
         // near 1, within a few powers of two
         5 => {
-            let near = |r: u64| f32::from_bits((r as u32 & 0x807f_ffff) | ((123 + (r >> 32) % 9) as u32) << 23);
+            let near = |r: u64| {
+                f32::from_bits((r as u32 & 0x807f_ffff) | ((123 + (r >> 32) % 9) as u32) << 23)
+            };
             (near(a), near(b))
         }
         // y so small that x's square root with it lies near the middle of two f32s
         6 => {
             let x = finite32(a);
             let scale = 0.5f32.powi(11 + (b >> 40) as i32 % 3);
-            (x, x * scale * f32::from_bits(0x3f80_0000 | b as u32 & 0x7f_ffff))
+            (
+                x,
+                x * scale * f32::from_bits(0x3f80_0000 | b as u32 & 0x7f_ffff),
+            )
         }
         // small whole numbers, where roots are exact and ties occur, and subnormals
         _ => {
             if i & 8 == 0 {
                 ((a % 8192) as f32, (b % 8192) as f32)
             } else {
-                (f32::from_bits(a as u32 & 0x807f_ffff), f32::from_bits(b as u32 & 0x80ff_ffff))
+                (
+                    f32::from_bits(a as u32 & 0x807f_ffff),
+                    f32::from_bits(b as u32 & 0x80ff_ffff),
+                )
             }
         }
     }
@@ -150,7 +158,11 @@ pub fn double(i: u64) -> f64 {
             } else {
                 f64::from_bits(0x47ef_ffff_f000_0000)
             };
-            if i & 8 == 0 { middle } else { beside(middle) }
+            if i & 8 == 0 {
+                middle
+            } else {
+                beside(middle)
+            }
         }
         // an f32, and beside it
         4 => beside(finite32(a) as f64),
@@ -173,7 +185,8 @@ pub fn double(i: u64) -> f64 {
             if i & 8 == 0 {
                 f64::from_bits((a & 0xf_ffff_ffff_ffff) >> (b % 52))
             } else {
-                let r = f64::from_bits((a & 0xf_ffff_ffff_ffff) >> 26 << 26 | 0x3ff0_0000_0000_0000);
+                let r =
+                    f64::from_bits((a & 0xf_ffff_ffff_ffff) >> 26 << 26 | 0x3ff0_0000_0000_0000);
                 beside(r * r)
             }
         }

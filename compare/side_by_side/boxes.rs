@@ -1,10 +1,10 @@
 //! Random and hostile calls on boxes.
-use crate::{call::Call, random::Random};
+use crate::{call::Call, random::Random, touches};
 use femtovg::calls::{self, Box10, Coverage11, Frame};
 
-const LIMIT: f32 = 1_048_576.0;
+pub const LIMIT: f32 = 1_048_576.0;
 
-fn number(random: &mut Random) -> f32 {
+pub fn number(random: &mut Random) -> f32 {
     match random.below(40) {
         0 => random.pick(&[f32::NAN, f32::INFINITY, f32::NEG_INFINITY]),
         1 => random.pick(&[LIMIT, -LIMIT, 1_048_576.1, -1_048_576.1]),
@@ -83,7 +83,7 @@ fn radius(random: &mut Random, extent: f32) -> f32 {
     }
 }
 
-fn shape(random: &mut Random) -> Box10 {
+pub fn shape(random: &mut Random) -> Box10 {
     let [a, b, c, d, x, y] = frame(random);
     let (width, height) = (extent(random), extent(random));
     let (mut rx, mut ry) = (radius(random, width), radius(random, height));
@@ -143,7 +143,7 @@ fn beside(random: &mut Random, one: Box10) -> Box10 {
     two
 }
 
-fn fringe(random: &mut Random) -> f32 {
+pub fn fringe(random: &mut Random) -> f32 {
     match random.below(8) {
         0 => number(random),
         1 => random.pick(&[0.0, -0.0, -1.0, 1e-6, 64.0]),
@@ -162,7 +162,7 @@ fn coverage(random: &mut Random, shape: Box10) -> Coverage11 {
     [0; 11].map(|_| number(random))
 }
 
-fn near(random: &mut Random, shape: Box10) -> [f32; 2] {
+pub fn near(random: &mut Random, shape: Box10) -> [f32; 2] {
     let [a, b, c, d, x, y, width, height, ..] = shape;
     let (along, across) = (
         random.float(-1.5, 1.5) * width,
@@ -242,7 +242,7 @@ fn spoil(random: &mut Random, verbs: &mut Vec<u8>, positions: &mut Vec<f32>) {
 
 pub fn call(random: &mut Random) -> Call {
     let one = shape(random);
-    match random.below(10) {
+    match random.below(11) {
         0 | 1 => {
             let (mut verbs, mut positions) = outline(random);
             for _ in 0..random.pick(&[0, 0, 1, 2]) {
@@ -278,6 +278,7 @@ pub fn call(random: &mut Random) -> Call {
                 one: two,
             }
         }
+        9 => touches::list(random),
         _ if random.one_in(3) => Call::Bounds { one },
         _ => Call::Distance {
             coverage: coverage(random, one),

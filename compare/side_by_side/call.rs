@@ -1,16 +1,13 @@
-//! A call, put to both engines.
-use crate::{drawings, library, random::Random};
-use femtovg::calls::{self, Box10, Coverage11, Drawing, Frame, Refused};
+//! A call on boxes, put to both engines.
+use crate::{
+    lent::{changed, same_bits, Lent},
+    library,
+    random::Random,
+};
+use femtovg::calls::{self, Box10, Coverage11, Frame, Refused};
 use std::fmt;
 
-#[derive(Clone)]
 pub enum Call {
-    Draw {
-        size: [usize; 2],
-        words: Vec<i32>,
-        /// how many mask bytes, scratch floats and scratch counters are lent
-        lent: [usize; 3],
-    },
     Fit {
         verbs: Vec<u8>,
         positions: Vec<f32>,
@@ -47,6 +44,11 @@ pub enum Call {
         coverage: Coverage11,
         point: [f32; 2],
     },
+    Touch {
+        boxes: Vec<Box10>,
+        fringe: f32,
+        point: [f32; 2],
+    },
 }
 
 /// The bits of a float; every NaN counts as one value.
@@ -72,14 +74,6 @@ impl fmt::Display for Floats<'_> {
 impl fmt::Display for Call {
     fn fmt(&self, f: &mut fmt::Formatter) -> fmt::Result {
         match self {
-            Call::Draw {
-                size: [width, height],
-                words,
-                lent: [_, floats, counters],
-            } => {
-                write!(f, "draw run {width} {height} {floats} {counters}")?;
-                words.iter().try_for_each(|word| write!(f, " {word}"))
-            }
             Call::Fit { verbs, positions } => {
                 write!(f, "fit {}", verbs.len())?;
                 verbs.iter().try_for_each(|verb| write!(f, " {verb}"))?;
@@ -111,151 +105,96 @@ impl fmt::Display for Call {
             Call::Distance { coverage, point } => {
                 write!(f, "distance{}{}", Floats(coverage), Floats(point))
             }
+            Call::Touch {
+                boxes,
+                fringe,
+                point: [x, y],
+            } => {
+                write!(f, "touch {}", boxes.len())?;
+                boxes.iter().try_for_each(|b| write!(f, "{}", Floats(b)))?;
+                write!(f, "{}", Floats(&[*fringe, *x, *y]))
+            }
         }
     }
 }
 
-/// A lent buffer between guards, and what all of it held before.
-struct Lent<T> {
-    all: Vec<T>,
-    before: Vec<T>,
-    length: usize,
-}
-
-const GUARD: usize = 64;
-
-impl<T: Copy> Lent<T> {
-    fn new(length: usize, rubbish: impl FnMut() -> T) -> Self {
-        let all: Vec<T> = std::iter::repeat_with(rubbish)
-            .take(length + 2 * GUARD)
-            .collect();
-        let before = all.clone();
-        Self {
-            all,
-            before,
-            length,
+impl Call {
+    pub fn kind(&self) -> &'static str {
+        match self {
+            Call::Fit { .. } => "fit",
+            Call::Transformed { .. } => "transformed",
+            Call::Intersection { .. } => "intersection",
+            Call::RectIntersection { .. } => "rect_intersection",
+            Call::Coverage { .. } => "coverage",
+            Call::Parallel { .. } => "parallel",
+            Call::Contains { .. } => "contains",
+            Call::Bounds { .. } => "bounds",
+            Call::Distance { .. } => "distance",
+            Call::Touch { .. } => "touch",
         }
     }
 
-    fn lend(&mut self) -> &mut [T] {
-        &mut self.all[GUARD..GUARD + self.length]
-    }
-
-    /// Whether all is as it was but for the first `changed` that were lent.
-    fn kept(&self, changed: usize, same: impl Fn(&T, &T) -> bool) -> bool {
-        let kept = |range: std::ops::Range<usize>| {
-            let pair = self.all[range.clone()].iter().zip(&self.before[range]);
-            pair.into_iter().all(|(now, before)| same(now, before))
-        };
-        kept(0..GUARD) && kept(GUARD + changed..self.all.len())
-    }
-}
-
-fn same_bits(now: &f32, before: &f32) -> bool {
-    now.to_bits() == before.to_bits()
-}
-
-/// Both engines, with what the old one keeps.
-#[derive(Default)]
-pub struct Engines {
-    drawing: Drawing,
-}
-
-impl Engines {
-    /// The answer of both, or how they differ.
-    pub fn compare(&mut self, call: &Call, random: &mut Random) -> Result<u8, String> {
-        let mut lending = Lending::new(random);
-        match call {
-            Call::Draw { size, words, lent } => self.compare_drawing(*size, words, *lent, random),
+    /// The answer of both engines, or how they differ.
+    pub fn compare(&self, random: &mut Random) -> Result<u8, String> {
+        let lending = Lending(random);
+        match self {
             Call::Fit { verbs, positions } => {
                 let old = calls::fit(verbs, positions).map(listed);
-                lending.written(old, 10, |out| library::fit(verbs, positions, out))
+                lending.written(old, 10, [], |[], out| library::fit(verbs, positions, out))
             }
             Call::Transformed { one, frame } => {
                 let old = calls::transformed(*one, *frame).map(|shape| Some(shape.to_vec()));
-                let (one, frame) = (lending.part(one), lending.part(frame));
-                lending.written(old, 10, |out| library::transformed(one, frame, out))
+                lending.written(old, 10, [one, frame], |[one, frame], out| {
+                    library::transformed(one, frame, out)
+                })
             }
             Call::Intersection { one, two, fringe } => {
                 let old = calls::intersection(*one, *two, *fringe).map(listed);
-                let (one, two) = (lending.part(one), lending.part(two));
-                lending.written(old, 10, |out| library::intersection(one, two, *fringe, out))
+                lending.written(old, 10, [one, two], |[one, two], out| {
+                    library::intersection(one, two, *fringe, out)
+                })
             }
             Call::RectIntersection { one, two } => {
                 let old = calls::rect_intersection(*one, *two).map(listed);
-                let (one, two) = (lending.part(one), lending.part(two));
-                lending.written(old, 10, |out| library::rect_intersection(one, two, out))
+                lending.written(old, 10, [one, two], |[one, two], out| {
+                    library::rect_intersection(one, two, out)
+                })
             }
             Call::Coverage { one, fringe } => {
                 let old = calls::coverage(*one, *fringe).map(listed);
-                let one = lending.part(one);
-                lending.written(old, 11, |out| library::coverage(one, *fringe, out))
+                lending.written(old, 11, [one], |[one], out| {
+                    library::coverage(one, *fringe, out)
+                })
             }
             Call::Parallel { one, two } => {
                 let old = calls::parallel(*one, *two);
-                let (one, two) = (lending.part(one), lending.part(two));
-                lending.tested(old, library::parallel(one, two))
+                lending.tested(old, [one, two], |[one, two]| library::parallel(one, two))
             }
             Call::Contains { coverage, one } => {
                 let old = calls::contains(*coverage, *one);
-                let (coverage, one) = (lending.part(coverage), lending.part(one));
-                lending.tested(old, library::contains(coverage, one))
+                lending.tested(old, [coverage, one], |[coverage, one]| {
+                    library::contains(coverage, one)
+                })
             }
             Call::Bounds { one } => {
                 let old = calls::bounds(*one).map(|bounds| Some(bounds.to_vec()));
-                let one = lending.part(one);
-                lending.written(old, 4, |out| library::bounds(one, out))
+                lending.written(old, 4, [one], |[one], out| library::bounds(one, out))
             }
             Call::Distance { coverage, point } => {
                 let old = calls::distance(*coverage, *point).map(|distance| Some(vec![distance]));
-                let coverage = lending.part(coverage);
-                lending.written(old, 1, |out| library::distance(coverage, *point, out))
+                lending.written(old, 1, [coverage], |[coverage], out| {
+                    library::distance(coverage, *point, out)
+                })
+            }
+            Call::Touch {
+                boxes,
+                fringe,
+                point,
+            } => {
+                let old = calls::touch(boxes, *fringe, *point);
+                lending.touched(old, boxes, |boxes| library::touch(boxes, *fringe, *point))
             }
         }
-    }
-
-    fn compare_drawing(
-        &mut self,
-        size: [usize; 2],
-        words: &[i32],
-        lent: [usize; 3],
-        random: &mut Random,
-    ) -> Result<u8, String> {
-        let mut mask = Lent::new(lent[0], || random.bits() as u8);
-        let mut floats = Lent::new(lent[1], || f32::from_bits(random.bits() as u32));
-        let mut counters = Lent::new(lent[2], || random.bits());
-        let new = library::draw(mask.lend(), size, words, floats.lend(), counters.lend());
-        let old = Drawing::check(size, words, lent);
-        let number = old.err().unwrap_or(library::DONE);
-        if new != number {
-            return Err(format!("number {new}, the Rust {number}"));
-        }
-        let done = number == library::DONE;
-        let cells = if done { size[0] * size[1] } else { 0 };
-        let cleared = |length| if done { length } else { 0 };
-        if !mask.kept(cells, |now, before| now == before)
-            || !floats.kept(cleared(lent[1]), same_bits)
-            || !counters.kept(cleared(lent[2]), |now, before| now == before)
-        {
-            return Err("memory changed that must be left as it was".into());
-        }
-        if done {
-            if floats.lend().iter().any(|x| x.to_bits() != 0)
-                || counters.lend().iter().any(|n| *n != 0)
-            {
-                return Err("scratch is not all zero".into());
-            }
-            let old = self.drawing.cells(size, words.to_vec());
-            let new = &mask.lend()[..cells];
-            if let Some(at) = (0..cells).find(|at| new[*at] != old[*at]) {
-                let (column, row) = (at % size[0], at / size[0]);
-                return Err(format!(
-                    "column {column}, row {row}: {}, the Rust {}",
-                    new[at], old[at]
-                ));
-            }
-        }
-        Ok(number)
     }
 }
 
@@ -263,142 +202,124 @@ fn listed<const N: usize>(answer: Option<[f32; N]>) -> Option<Vec<f32>> {
     answer.map(|floats| floats.to_vec())
 }
 
-/// Lends floats to a box call. Now and then too few are lent, and number 4 is expected.
-struct Lending<'a> {
-    random: &'a mut Random,
-    short: bool,
-}
+/// Lends floats to a box call: now and then too few, and number 4 is expected, or more than it takes.
+struct Lending<'a>(&'a mut Random);
 
-impl<'a> Lending<'a> {
-    fn new(random: &'a mut Random) -> Self {
-        Self {
-            random,
-            short: false,
-        }
+impl Lending<'_> {
+    fn rubbish(&mut self) -> f32 {
+        f32::from_bits(self.0.bits() as u32)
     }
 
-    /// All of a box, frame or coverage, or too little of it.
-    fn part<'b>(&mut self, floats: &'b [f32]) -> &'b [f32] {
-        if self.random.one_in(40) {
-            self.short = true;
-            return &floats[..self.random.below(floats.len())];
+    /// A box, frame or coverage as it is lent.
+    fn part(&mut self, floats: &[f32]) -> Lent<f32> {
+        let mut lent = floats.to_vec();
+        match self.0.below(40) {
+            0 => lent.truncate(self.0.below(floats.len())),
+            1..=3 => lent.extend((0..=self.0.below(9)).map(|_| self.rubbish())),
+            _ => {}
         }
-        floats
+        Lent::holding(&lent, || self.rubbish())
+    }
+
+    /// What is lent of each, and whether that is too little.
+    fn parts<const N: usize>(&mut self, floats: [&[f32]; N]) -> ([Lent<f32>; N], bool) {
+        let parts = floats.map(|floats| self.part(floats));
+        let pairs = parts.iter().zip(floats);
+        let short = pairs
+            .into_iter()
+            .any(|(part, floats)| part.lent().len() < floats.len());
+        (parts, short)
     }
 
     /// Compares a call that writes floats, of which there may be lent too few or more.
-    fn written(
-        self,
+    fn written<const N: usize>(
+        mut self,
         old: Result<Option<Vec<f32>>, Refused>,
         needed: usize,
-        call: impl Fn(&mut [f32]) -> u8,
+        floats: [&[f32]; N],
+        call: impl Fn([&[f32]; N], &mut [f32]) -> u8,
     ) -> Result<u8, String> {
-        let random = self.random;
-        let length = match random.below(16) {
-            0 => random.below(needed),
-            1..=3 => needed + random.below(9),
+        let (parts, short) = self.parts(floats);
+        let length = match self.0.below(16) {
+            0 => self.0.below(needed),
+            1..=3 => needed + self.0.below(9),
             _ => needed,
         };
-        let mut out = Lent::new(length, || f32::from_bits(random.bits() as u32));
-        let new = call(out.lend());
+        let mut out = Lent::new(length, || self.rubbish());
+        let new = call(parts.each_ref().map(Lent::lent), out.lend());
         let (number, floats) = match old {
-            _ if self.short || length < needed => (library::TOO_SHORT, vec![]),
+            _ if short || length < needed => (library::TOO_SHORT, vec![]),
             Err(number) => (number, vec![]),
             Ok(None) => (library::NONE, vec![]),
             Ok(Some(floats)) => (library::DONE, floats),
         };
-        if new != number {
-            return Err(format!("number {new}, expected {number}"));
-        }
+        expected(new, number, &parts)?;
         if !out.kept(floats.len(), same_bits) {
-            return Err("memory changed that must be left as it was".into());
+            return Err(changed());
         }
-        let found = &out.lend()[..floats.len()];
+        let found = &out.lent()[..floats.len()];
         let differs = |(new, old): (&f32, &f32)| bits(*new) != bits(*old);
         if found.iter().zip(&floats).any(differs) {
-            return Err(format!(
-                "answer{}, the Rust{}",
-                Floats(found),
-                Floats(&floats)
-            ));
+            let (found, floats) = (Floats(found), Floats(&floats));
+            return Err(format!("answer{found}, the Rust{floats}"));
         }
         Ok(number)
     }
 
     /// Compares a call that answers yes or no.
-    fn tested(self, old: Result<bool, Refused>, new: u8) -> Result<u8, String> {
+    fn tested<const N: usize>(
+        mut self,
+        old: Result<bool, Refused>,
+        floats: [&[f32]; N],
+        call: impl Fn([&[f32]; N]) -> u8,
+    ) -> Result<u8, String> {
+        let (parts, short) = self.parts(floats);
+        let new = call(parts.each_ref().map(Lent::lent));
         let number = match old {
-            _ if self.short => library::TOO_SHORT,
+            _ if short => library::TOO_SHORT,
             Err(number) => number,
             Ok(true) => library::YES,
             Ok(false) => library::NO,
         };
-        if new != number {
-            return Err(format!("number {new}, expected {number}"));
-        }
+        expected(new, number, &parts)?;
         Ok(number)
+    }
+
+    /// Compares a touch: any place that the Rust allows is right, and no frame where it allows none.
+    fn touched(
+        mut self,
+        old: Result<Vec<usize>, Refused>,
+        boxes: &[Box10],
+        call: impl Fn(&[Box10]) -> u32,
+    ) -> Result<u8, String> {
+        let boxes = Lent::holding(boxes, || [0; 10].map(|_| self.rubbish()));
+        let new = call(boxes.lent());
+        let same = |now: &Box10, before: &Box10| {
+            let mut pairs = now.iter().zip(before);
+            pairs.all(|(now, before)| same_bits(now, before))
+        };
+        if !boxes.kept(0, same) {
+            return Err(changed());
+        }
+        let named = |place: &usize| new == library::FIRST_PLACE + *place as u32;
+        match old {
+            Err(number) if new == u32::from(number) => Ok(number),
+            Ok(places) if places.iter().any(named) => Ok(library::DONE),
+            Ok(places) if places.is_empty() && new == u32::from(library::NO_FRAME) => {
+                Ok(library::NO_FRAME)
+            }
+            old => Err(format!("number {new}, the Rust {old:?}")),
+        }
     }
 }
 
-impl Call {
-    pub const KINDS: [&'static str; 10] = [
-        "draw",
-        "fit",
-        "transformed",
-        "intersection",
-        "rect_intersection",
-        "coverage",
-        "parallel",
-        "contains",
-        "bounds",
-        "distance",
-    ];
-
-    pub fn kind(&self) -> usize {
-        match self {
-            Call::Draw { .. } => 0,
-            Call::Fit { .. } => 1,
-            Call::Transformed { .. } => 2,
-            Call::Intersection { .. } => 3,
-            Call::RectIntersection { .. } => 4,
-            Call::Coverage { .. } => 5,
-            Call::Parallel { .. } => 6,
-            Call::Contains { .. } => 7,
-            Call::Bounds { .. } => 8,
-            Call::Distance { .. } => 9,
-        }
+/// Whether the number is the one expected, and what was lent to be read is as it was.
+fn expected(new: u8, number: u8, parts: &[Lent<f32>]) -> Result<(), String> {
+    if new != number {
+        return Err(format!("number {new}, expected {number}"));
     }
-
-    /// The drawing with a group, a contour or a point less, in each way.
-    pub fn smaller(&self) -> Vec<Call> {
-        let Call::Draw { size, words, lent } = self else {
-            return vec![];
-        };
-        let Some(groups) = drawings::read(words) else {
-            return vec![];
-        };
-        let mut smaller = Vec::new();
-        let mut without = |change: &dyn Fn(&mut Vec<drawings::Group>)| {
-            let mut groups = drawings::read(words).expect("read above");
-            change(&mut groups);
-            let words = drawings::written(&groups);
-            smaller.push(Call::Draw {
-                size: *size,
-                words,
-                lent: *lent,
-            });
-        };
-        for (g, group) in groups.iter().enumerate() {
-            without(&|groups| drop(groups.remove(g)));
-            for (c, contour) in group.contours.iter().enumerate() {
-                without(&|groups| drop(groups[g].contours.remove(c)));
-                for p in 0..contour.len() {
-                    without(&|groups| {
-                        groups[g].contours[c].remove(p);
-                    });
-                }
-            }
-        }
-        smaller
+    if !parts.iter().all(|part| part.kept(0, same_bits)) {
+        return Err(changed());
     }
+    Ok(())
 }

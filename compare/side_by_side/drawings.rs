@@ -1,11 +1,15 @@
 //! Random and hostile drawings.
-use crate::{call::Call, random::Random};
+use crate::{
+    chain::{Chain, Step},
+    random::Random,
+};
 
-const LIMIT: i32 = 1_048_576;
+pub const LIMIT: i32 = 1_048_576;
 const MOST_POINTS: usize = 2048;
 
 pub type Point = [i32; 2];
 
+#[derive(Clone)]
 pub struct Group {
     pub rule: i32,
     pub contours: Vec<Vec<Point>>,
@@ -50,7 +54,7 @@ pub fn points(groups: &[Group]) -> usize {
         .sum()
 }
 
-fn side(random: &mut Random) -> usize {
+pub fn side(random: &mut Random) -> usize {
     match random.below(8) {
         0 => random.pick(&[0, 1, 1, 2, 3]),
         1 | 2 => random.pick(&[63, 64, 65, 127, 128, 129]),
@@ -146,7 +150,7 @@ fn contour(random: &mut Random, size: [usize; 2], most: usize) -> Vec<Point> {
     contour
 }
 
-fn groups(random: &mut Random, size: [usize; 2]) -> Vec<Group> {
+pub fn groups(random: &mut Random, size: [usize; 2]) -> Vec<Group> {
     let count = match random.below(40) {
         0 => random.below(120),
         1..=3 => 0,
@@ -174,7 +178,7 @@ fn groups(random: &mut Random, size: [usize; 2]) -> Vec<Group> {
 }
 
 /// A fault at some place of a list, or a change that may be none.
-fn spoil(random: &mut Random, words: &mut Vec<i32>) {
+pub fn spoil(random: &mut Random, words: &mut Vec<i32>) {
     if words.is_empty() {
         words.push(random.whole(-2, 2));
         return;
@@ -191,7 +195,7 @@ fn spoil(random: &mut Random, words: &mut Vec<i32>) {
 }
 
 /// As much as is needed, one less, or more.
-fn lent(random: &mut Random, needed: usize) -> usize {
+pub fn lent(random: &mut Random, needed: usize) -> usize {
     match random.below(16) {
         0 => needed.saturating_sub(1),
         1 => random.below(needed + 1),
@@ -200,19 +204,154 @@ fn lent(random: &mut Random, needed: usize) -> usize {
     }
 }
 
-pub fn drawing(random: &mut Random) -> Call {
+/// The scratch floats and counters that a drawing needs.
+pub fn scratch(size: [usize; 2], points: usize) -> [usize; 2] {
+    let [width, height] = size.map(|cells| cells.min(4097));
+    [width + 15 * points, width.div_ceil(64) + height + 1]
+}
+
+/// A chain of one drawing.
+pub fn drawing(random: &mut Random) -> Chain {
     let size = size(random);
     let groups = groups(random, size);
     let mut words = written(&groups);
-    let points = points(&groups);
     if random.one_in(6) {
         spoil(random, &mut words);
     }
     let [width, height] = size.map(|cells| cells.min(4097));
-    let lent = [
-        lent(random, width * height),
-        lent(random, width + 15 * points),
-        lent(random, width.div_ceil(64) + height + 1),
+    let length = lent(random, width * height);
+    let draw = Step::Draw {
+        mask: 0,
+        size,
+        words,
+        scratch: scratch(size, points(&groups)).map(|needed| lent(random, needed)),
+    };
+    Chain {
+        masks: [
+            (0..length).map(|_| random.bits() as u8).collect(),
+            [].into(),
+        ],
+        steps: vec![draw],
+        reckoned: false,
+    }
+}
+
+// ---- drawings for the reckoner
+
+/// Long edges that are all but upright or all but level.
+fn needle(random: &mut Random, size: [usize; 2]) -> Vec<Point> {
+    let far = random.pick(&[LIMIT, LIMIT - 1, 300_001, 70_000, 5_000]);
+    let [x, y] = point(random, size);
+    let across = random.one_in(2);
+    let at = if across { y } else { x };
+    let ends = [
+        [at, -far],
+        [at + random.whole(-3, 3), far],
+        [at + random.whole(-300, 300), random.whole(-far, far)],
     ];
-    Call::Draw { size, words, lent }
+    ends.into_iter()
+        .map(|[x, y]| if across { [y, x] } else { [x, y] })
+        .map(|point| point.map(|x| x.clamp(-LIMIT, LIMIT)))
+        .collect()
+}
+
+/// Two edges from one place far away, past the mask, to far away.
+fn wedge(random: &mut Random, size: [usize; 2]) -> Vec<Point> {
+    let far = random.pick(&[LIMIT, LIMIT, 400_000, 30_000]);
+    let any = random.whole(-far, far);
+    let apex = [0, 1].map(|_| random.pick(&[far, -far, any]) + random.whole(-9_000, 9_000));
+    let first = point(random, size);
+    let other = point(random, size);
+    let near = first.map(|x| x + random.whole(-300, 300));
+    let second = random.pick(&[other, near, near]);
+    let past = |[x, y]: Point| [2 * x - apex[0], 2 * y - apex[1]];
+    [apex, past(first), past(second)]
+        .map(|point| point.map(|x| x.clamp(-LIMIT, LIMIT)))
+        .to_vec()
+}
+
+/// Points in and about one cell.
+fn crumb(random: &mut Random, size: [usize; 2]) -> Vec<Point> {
+    let [x, y] = point(random, size);
+    let near = |random: &mut Random, x: i32| (x + random.whole(-200, 200)).clamp(-LIMIT, LIMIT);
+    (0..3 + random.below(4))
+        .map(|_| [near(random, x), near(random, y)])
+        .collect()
+}
+
+/// Four corners about the mask or far outside it, so that most of it is covered.
+fn cover(random: &mut Random, size: [usize; 2]) -> Vec<Point> {
+    let [width, height] = size.map(|cells| cells.min(4096) as i32 * 256);
+    let mut out = || {
+        let far = random.pick(&[300, 300, 20_000, LIMIT / 2]);
+        random.whole(-300, far)
+    };
+    vec![
+        [-out(), -out()],
+        [width + out(), -out()],
+        [width + out(), height + out()],
+        [-out(), height + out()],
+    ]
+}
+
+fn few_points(random: &mut Random, size: [usize; 2]) -> Vec<Point> {
+    match random.below(12) {
+        0 => needle(random, size),
+        1 | 2 => wedge(random, size),
+        3 => crumb(random, size),
+        4..=7 => cover(random, size),
+        _ => contour(random, size, 8),
+    }
+}
+
+fn few_contours(random: &mut Random, size: [usize; 2]) -> Group {
+    let rule = random.pick(&[0, 0, 0, 1, 1, -1, i32::MIN]);
+    let count = random.pick(&[0, 1, 1, 1, 1, 2, 2, 3]);
+    let mut contours: Vec<_> = (0..count).map(|_| few_points(random, size)).collect();
+    if count > 0 && random.one_in(6) {
+        // wound many times
+        let again = vec![contours[0].clone(); 1 + random.below(6)];
+        contours.extend(again);
+    }
+    Group { rule, contours }
+}
+
+/// Few groups of few points, with long and all but level edges among them.
+pub fn few_groups(random: &mut Random, size: [usize; 2]) -> Vec<Group> {
+    let count = match random.below(16) {
+        0 => 0,
+        1 => 4 + random.below(6),
+        2 | 3 => {
+            // two long edges and no more: the least that is allowed
+            let (rule, contours) = (0, vec![wedge(random, size)]);
+            return vec![Group { rule, contours }];
+        }
+        _ => random.pick(&[1, 1, 1, 2, 3]),
+    };
+    (0..count).map(|_| few_contours(random, size)).collect()
+}
+
+/// The word list with a group, a contour or a point less, in each way.
+pub fn smaller(words: &[i32]) -> Vec<Vec<i32>> {
+    let Some(groups) = read(words) else {
+        return vec![];
+    };
+    let mut smaller = Vec::new();
+    let mut without = |change: &dyn Fn(&mut Vec<Group>)| {
+        let mut groups = groups.clone();
+        change(&mut groups);
+        smaller.push(written(&groups));
+    };
+    for (g, group) in groups.iter().enumerate() {
+        without(&|groups| drop(groups.remove(g)));
+        for (c, contour) in group.contours.iter().enumerate() {
+            without(&|groups| drop(groups[g].contours.remove(c)));
+            for p in 0..contour.len() {
+                without(&|groups| {
+                    groups[g].contours[c].remove(p);
+                });
+            }
+        }
+    }
+    smaller
 }

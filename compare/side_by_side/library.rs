@@ -5,6 +5,9 @@ pub const TOO_SHORT: u8 = 4;
 pub const NONE: u8 = 13;
 pub const YES: u8 = 14;
 pub const NO: u8 = 15;
+pub const NO_FRAME: u8 = 16;
+/// The number of place 0 of a touch list.
+pub const FIRST_PLACE: u32 = 256;
 
 mod c {
     #[link(name = "beamnettle", kind = "static")]
@@ -20,6 +23,18 @@ mod c {
             floats_length: usize,
             counters: *mut u64,
             counters_length: usize,
+        ) -> u8;
+        pub fn beamnettle_lay(
+            mask: *mut u8,
+            mask_length: usize,
+            width: usize,
+            height: usize,
+            other: *const u8,
+            other_length: usize,
+            other_width: usize,
+            other_height: usize,
+            offset_x: i32,
+            offset_y: i32,
         ) -> u8;
         pub fn beamnettle_fit(
             verbs: *const u8,
@@ -87,6 +102,13 @@ mod c {
             shape: *const f32,
             shape_length: usize,
         ) -> u8;
+        pub fn beamnettle_touch(
+            boxes: *const [f32; 10],
+            boxes_length: usize,
+            fringe: f32,
+            x: f32,
+            y: f32,
+        ) -> u32;
     }
 }
 
@@ -112,6 +134,29 @@ pub fn draw(
             floats.len(),
             counters.as_mut_ptr(),
             counters.len(),
+        )
+    }
+}
+
+pub fn lay(
+    mask: &mut [u8],
+    size: [usize; 2],
+    other: &[u8],
+    other_size: [usize; 2],
+    offset: [i32; 2],
+) -> u8 {
+    unsafe {
+        c::beamnettle_lay(
+            mask.as_mut_ptr(),
+            mask.len(),
+            size[0],
+            size[1],
+            other.as_ptr(),
+            other.len(),
+            other_size[0],
+            other_size[1],
+            offset[0],
+            offset[1],
         )
     }
 }
@@ -212,4 +257,9 @@ pub fn contains(coverage: &[f32], shape: &[f32]) -> u8 {
             shape.len(),
         )
     }
+}
+
+pub fn touch(boxes: &[[f32; 10]], fringe: f32, point: [f32; 2]) -> u32 {
+    let [x, y] = point;
+    unsafe { c::beamnettle_touch(boxes.as_ptr(), boxes.len(), fringe, x, y) }
 }

@@ -1,56 +1,131 @@
 //! Puts random and hostile calls to Beamnettle and to femtovg's Rust, and compares every answer:
 //! numbers, masks byte by byte, floats by their bits (every NaN one value), lent memory and guards.
+//! Small chains of drawings and layings-on are also held to document 01's reckoner.
 //! side_by_side [SEED] [SECONDS]
 mod boxes;
 mod call;
+mod chain;
+mod chains;
 mod drawings;
+mod fraction;
+mod lent;
 mod library;
 mod random;
+mod reckoner;
+mod touches;
+mod whole;
 
-use call::{Call, Engines};
+use chain::Chain;
+use femtovg::calls::Drawing;
 use random::Random;
-use std::time::{Duration, Instant};
+use reckoner::Closeness;
+use std::{
+    collections::BTreeMap,
+    time::{Duration, Instant},
+};
 
-/// Numbers 0 to 15.
-const ANSWERS: usize = 16;
+/// Numbers 0 to 16; a place counts as done.
+const ANSWERS: usize = 17;
 
-/// A differing call made smaller while it still differs.
-fn shrunk(mut call: Call, mut difference: String) -> (Call, String) {
-    'again: loop {
-        for smaller in call.smaller() {
-            if let Err(found) = Engines::default().compare(&smaller, &mut Random::new(1)) {
-                (call, difference) = (smaller, found);
-                continue 'again;
+/// Everything that is counted.
+#[derive(Default)]
+struct Counts {
+    answers: BTreeMap<&'static str, [u64; ANSWERS]>,
+    compared: u64,
+    differ: u64,
+    chains: u64,
+    closeness: Closeness,
+}
+
+impl Counts {
+    fn answer(&mut self, kind: &'static str, number: u8) {
+        self.compared += 1;
+        self.answers.entry(kind).or_default()[number as usize] += 1;
+    }
+
+    fn difference(&mut self, difference: &str, calls: &impl std::fmt::Display) {
+        self.compared += 1;
+        self.differ += 1;
+        println!("differs: {difference}\n{calls}");
+    }
+
+    fn show(&self) {
+        let heads = (1..13).map(|number| number.to_string());
+        let heads = std::iter::once("done".into())
+            .chain(heads)
+            .chain(["none", "yes", "no", "no frame"].map(String::from));
+        print!("{:18}", "");
+        heads.for_each(|head| print!("{head:>9}"));
+        println!();
+        for (kind, numbers) in &self.answers {
+            print!("{kind:18}");
+            for count in numbers {
+                let shown = (*count > 0).then(|| count.to_string());
+                print!("{:>9}", shown.unwrap_or("-".into()));
             }
+            println!();
         }
-        return (call, difference);
+        let Closeness {
+            largest,
+            drawings,
+            layings,
+            cells,
+        } = self.closeness;
+        println!("chains: {}", self.chains);
+        println!(
+            "largest share of the allowed difference: {largest:.4} (done drawings {drawings}, layings {layings}, cells {cells})"
+        );
     }
 }
 
-fn show(counts: &[[u64; ANSWERS]]) {
-    print!("{:18}", "");
-    let heads = (1..13).map(|number| number.to_string());
-    for head in std::iter::once("done".into())
-        .chain(heads)
-        .chain(["none", "yes", "no"].map(String::from))
-    {
-        print!("{head:>9}");
-    }
-    println!();
-    for (kind, counts) in Call::KINDS.iter().zip(counts) {
-        print!("{kind:18}");
-        for count in counts {
-            print!(
-                "{:>9}",
-                if *count == 0 {
-                    "-".into()
-                } else {
-                    count.to_string()
-                }
-            );
+/// A differing chain made smaller while it still differs.
+fn shrunk(mut chain: Chain, mut difference: String) -> (Chain, String) {
+    'again: loop {
+        for smaller in chain.smaller() {
+            let (random, mut drawing) = (&mut Random::new(1), Drawing::default());
+            let compared =
+                chain::compare(&smaller, &mut drawing, random, &mut Closeness::default());
+            if let Err(found) = compared {
+                (chain, difference) = (smaller, found);
+                continue 'again;
+            }
         }
-        println!();
+        return (chain, difference);
     }
+}
+
+fn put_box_call(random: &mut Random, counts: &mut Counts) {
+    let call = boxes::call(random);
+    match call.compare(random) {
+        Ok(number) => counts.answer(call.kind(), number),
+        Err(difference) => counts.difference(&difference, &call),
+    }
+}
+
+fn put_chain(chain: Chain, drawing: &mut Drawing, random: &mut Random, counts: &mut Counts) {
+    match chain::compare(&chain, drawing, random, &mut counts.closeness) {
+        Ok(numbers) => {
+            let steps = chain.steps.iter().zip(numbers);
+            steps.for_each(|(step, number)| counts.answer(step.kind(), number));
+        }
+        Err(difference) => {
+            let (chain, difference) = shrunk(chain, difference);
+            counts.difference(&difference, &chain);
+        }
+    }
+}
+
+/// A call on boxes, a lone drawing or a chain.
+fn put(drawing: &mut Drawing, random: &mut Random, counts: &mut Counts) {
+    let chain = match random.below(800) {
+        turn @ 0..=15 => {
+            counts.chains += 1;
+            chains::chain(random, turn < 8)
+        }
+        16..=99 => drawings::drawing(random),
+        _ => return put_box_call(random, counts),
+    };
+    put_chain(chain, drawing, random, counts);
 }
 
 fn main() {
@@ -59,35 +134,25 @@ fn main() {
         .map(|word| word.parse::<u64>().expect("a whole number"));
     let seed = arguments.next().unwrap_or(1);
     let limit = Duration::from_secs(arguments.next().unwrap_or(60));
-    let (mut random, mut engines) = (Random::new(seed), Engines::default());
-    let mut counts = [[0; ANSWERS]; Call::KINDS.len()];
-    let (mut compared, mut differ) = (0u64, 0);
+    let (mut random, mut drawing) = (Random::new(seed), Drawing::default());
+    let mut counts = Counts::default();
     let start = Instant::now();
     let mut shown = start;
-    while start.elapsed() < limit && differ < 10 {
-        let call = if random.one_in(8) {
-            drawings::drawing(&mut random)
-        } else {
-            boxes::call(&mut random)
-        };
-        compared += 1;
-        match engines.compare(&call, &mut random) {
-            Ok(number) => counts[call.kind()][number as usize] += 1,
-            Err(difference) => {
-                differ += 1;
-                let (call, difference) = shrunk(call, difference);
-                println!("differs: {difference}\n{call}");
-            }
-        }
+    while start.elapsed() < limit && counts.differ < 10 {
+        put(&mut drawing, &mut random, &mut counts);
         if shown.elapsed() > Duration::from_secs(5) {
             shown = Instant::now();
-            eprintln!(
-                "{compared} compared, {differ} differ, {} s",
-                start.elapsed().as_secs()
-            );
+            let Counts {
+                compared, differ, ..
+            } = counts;
+            let seconds = start.elapsed().as_secs();
+            eprintln!("{compared} compared, {differ} differ, {seconds} s");
         }
     }
-    show(&counts);
+    counts.show();
+    let Counts {
+        compared, differ, ..
+    } = counts;
     println!("seed {seed}: {compared} compared, {differ} differ");
     std::process::exit((differ > 0) as i32);
 }

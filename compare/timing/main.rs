@@ -190,6 +190,63 @@ fn drawings() {
     );
 }
 
+// ---- layings-on
+
+/// The cells of a drawing.
+fn drawn(size: [usize; 2], groups: &[Vec<Contour>]) -> Vec<u8> {
+    Key::new(size, words(groups))
+        .draw(&mut Scratch::default())
+        .to_vec()
+}
+
+/// Lays the other mask on a fresh copy of the mask.
+fn lay(name: &str, side: usize, own: &[u8], other: &[u8], offset: [i32; 2]) {
+    let size = [side, side];
+    let (mut old, mut new) = (own.to_vec(), own.to_vec());
+    assert_eq!(calls::lay(&mut old, size, other, size, offset), Ok(()));
+    assert_eq!(
+        library::lay(&mut new, size, other, size, offset),
+        library::DONE
+    );
+    assert!(old == new, "{name}: masks differ");
+    line(
+        name,
+        &mut || {
+            old.copy_from_slice(own);
+            let _ = black_box(calls::lay(black_box(&mut old), size, other, size, offset));
+        },
+        &mut || {
+            new.copy_from_slice(own);
+            black_box(library::lay(black_box(&mut new), size, other, size, offset));
+        },
+    );
+}
+
+fn layings() {
+    let of = |side: usize| {
+        let middle = [side as f64 / 2.0; 2];
+        let half = [side as f64 * 0.4, side as f64 * 0.3];
+        let reaches = [side as f64 * 0.5, side as f64 * 0.3];
+        (
+            drawn([side; 2], &[vec![frame(middle, half, 0.2)]]),
+            drawn([side; 2], &[vec![star(middle, reaches, 24)]]),
+        )
+    };
+    let (own, other) = of(1024);
+    lay("lay, 1,024 x 1,024", 1024, &own, &other, [0, 0]);
+    lay(
+        "lay, 1,024 x 1,024, offset 100 -60",
+        1024,
+        &own,
+        &other,
+        [100, -60],
+    );
+    let grey: Vec<u8> = (0..1024 * 1024).map(|i| (i * 7 % 256) as u8).collect();
+    lay("lay, 1,024 x 1,024, all grey", 1024, &grey, &grey, [0, 0]);
+    let (own, other) = of(16);
+    lay("lay, 16 x 16", 16, &own, &other, [0, 0]);
+}
+
 // ---- boxes
 
 fn boxes() {
@@ -275,5 +332,6 @@ fn boxes() {
 fn main() {
     println!("| call | old | new | new / old |\n|---|---|---|---|");
     drawings();
+    layings();
     boxes();
 }

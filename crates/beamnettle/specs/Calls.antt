@@ -1,6 +1,7 @@
--- The exported calls, outright: document 01's answers as numbers, and what is lent afterwards. Definitions only.
-use Prim.Native.Nat.{ℕ}
-use mathlib.Core.Bool.{Bool, cond}
+-- The exported calls, outright: document 01's answers as numbers, and what is lent afterwards; touch by its rule. Definitions only.
+use Prim.Native.Nat.{ℕ, _+_}
+use mathlib.Core.Path.{_≡_}
+use mathlib.Core.Bool.{cond}
 use mathlib.Core.List.{List, [], _∷_}
 use lib.Dec.{ltb}
 use lib.Ieee.{Float}
@@ -21,13 +22,18 @@ use Rattle.shape.specs.declared.TestAnswer.{TestAnswer}
 use Rattle.shape.specs.declared.TestAnswer.the-variants as test
 use Rattle.shape.specs.Calls.{transformedCall, coverageCall, boundsCall, parallelCall, rectIntersectionCall, intersectionCall, distanceCall, containsCall}
 use Rattle.fit.specs.Fit.{fitCall}
+use Rattle.geometry.specs.declared.Position.{Position}
+use Rattle.shape.specs.declared.RoundedBox.{RoundedBox}
+use Rattle.touch.specs.declared.TouchAnswer.{TouchAnswer}
+use Rattle.touch.specs.declared.TouchAnswer.the-variants as touched
+use Rattle.touch.specs.Touch.{TouchRule}
 use Rattle.beamnettle.specs.Lent.{frameIn, boxIn, coverageIn, boxFloats, coverageFloats, boundsFloats, over}
 
 -- ---- an answer's number: 'A call is done, or turned away by number.' Done is 0; "no box", an ordinary outcome of a done call, is 13; yes is 14 and no 15
 
-abbrev pub drawNumber : Outcome → ℕ
-drawNumber drawn.Done = 0
-drawNumber (drawn.Refused f) = numberOf f
+abbrev pub outcomeNumber : Outcome → ℕ
+outcomeNumber drawn.Done = 0
+outcomeNumber (drawn.Refused f) = numberOf f
 
 abbrev pub boxNumber : BoxAnswer → ℕ
 boxNumber (box.Box b) = 0
@@ -117,3 +123,14 @@ abbrev pub containsLent : List Float → List Float → TestAnswer
 containsLent k b =
     cond (ltb (length k) 11) (test.Refused BufferTooShort)
     (cond (ltb (length b) 10) (test.Refused BufferTooShort) (containsCall (coverageIn k) (boxIn b)))
+
+-- ---- touch. "No frame", an ordinary outcome of a done call, is 16; the place k, 'as a byte counted from 0', is 256 + k
+
+abbrev pub touchNumber : TouchAnswer → ℕ
+touchNumber (touched.Frame k) = 256 + k
+touchNumber touched.NoFrame = 16
+touchNumber (touched.Refused f) = numberOf f
+
+-- a number is that of an answer which the touch rule allows
+abbrev pub TouchNumber : List RoundedBox → Float → Position → ℕ → Type 0
+TouchNumber bs fringe p n = (r : TouchAnswer) × TouchRule bs fringe p r × (n ≡ touchNumber r)

@@ -1,8 +1,10 @@
 // The kiosk's C library: document 01's calls over numbers and lent slices. include/beamnettle.h says
-// what each does in words; each contract gives its number and all that is lent afterwards outright.
+// what each does in words; each contract gives its number and all that is lent afterwards outright, but
+// for the place that a touch names, which document 01 leaves free.
 use coverage::Size;
 use geometry::Position;
 use geometry::Transform2D;
+use laying::Offset;
 use mask::Outcome;
 use shape::BoundsAnswer;
 use shape::BoxAnswer;
@@ -11,12 +13,14 @@ use shape::CoverageAnswer;
 use shape::DistanceAnswer;
 use shape::RoundedBox;
 use shape::TestAnswer;
+use touch::TouchAnswer;
 ghost use mathlib.Core.Path.{_≡_};
 ghost use Prim.Native.Nat.{_≤_};
 ghost use lib.ListN.{length};
-ghost use Rattle.mask.specs.Calls.{drawAnswer, maskAfterDrawing, floatsAfterDrawing, countersAfterDrawing};
+ghost use Rattle.mask.specs.Calls.{drawAnswer, maskAfterDrawing, floatsAfterDrawing, countersAfterDrawing, layAnswer, maskAfterLaying};
+ghost use Rattle.touch.specs.Touch.{pointOf};
 ghost use Rattle.beamnettle.specs.Lent.{frameIn, boxIn, coverageIn, over};
-ghost use Rattle.beamnettle.specs.Calls.{drawNumber, boxNumber, coverageNumber, boundsNumber, distanceNumber, testNumber, boxAfter, coverageAfter, boundsAfter, distanceAfter, fitLent, transformedLent, intersectionLent, rectIntersectionLent, coverageLent, boundsLent, distanceLent, parallelLent, containsLent};
+ghost use Rattle.beamnettle.specs.Calls.{outcomeNumber, boxNumber, coverageNumber, boundsNumber, distanceNumber, testNumber, touchNumber, TouchNumber, boxAfter, coverageAfter, boundsAfter, distanceAfter, fitLent, transformedLent, intersectionLent, rectIntersectionLent, coverageLent, boundsLent, distanceLent, parallelLent, containsLent};
 
 const DONE: u8 = 0;
 
@@ -27,6 +31,10 @@ const NONE: u8 = 13;
 const YES: u8 = 14;
 
 const NO: u8 = 15;
+
+const NO_FRAME: u32 = 16;
+// A place is answered above all other numbers.
+const FIRST_PLACE: u32 = 256;
 
 // How many floats a box, a frame, a coverage and bounds take.
 const BOX: usize = 10;
@@ -39,8 +47,8 @@ const BOUNDS: usize = 4;
 
 // ---- masks
 
-fn draw_number(outcome: Outcome) -> u8
-    ensures { λ r. ⌜ r ≡ drawNumber outcome ⌝ }
+fn outcome_number(outcome: Outcome) -> u8
+    ensures { λ r. ⌜ r ≡ outcomeNumber outcome ⌝ }
 {
     match outcome {
         Outcome::Done => DONE,
@@ -57,13 +65,39 @@ pub extern "C" fn beamnettle_draw(
     floats: &mut [f32],
     counters: &mut [u64],
 ) -> u8
-    ensures number { λ r. ⌜ r ≡ drawNumber (drawAnswer (record { width = width; height = height }) (now (words .entry)) (record { mask = length (now (mask .entry)); floats = length (now (floats .entry)); counters = length (now (counters .entry)) })) ⌝ }
+    ensures number { λ r. ⌜ r ≡ outcomeNumber (drawAnswer (record { width = width; height = height }) (now (words .entry)) (record { mask = length (now (mask .entry)); floats = length (now (floats .entry)); counters = length (now (counters .entry)) })) ⌝ }
     ensures cells { λ _. ⌜ now (mask .exit) ≡ maskAfterDrawing (drawAnswer (record { width = width; height = height }) (now (words .entry)) (record { mask = length (now (mask .entry)); floats = length (now (floats .entry)); counters = length (now (counters .entry)) })) (record { width = width; height = height }) (now (words .entry)) (now (mask .entry)) ⌝ }
     ensures floats { λ _. ⌜ now (floats .exit) ≡ floatsAfterDrawing (drawAnswer (record { width = width; height = height }) (now (words .entry)) (record { mask = length (now (mask .entry)); floats = length (now (floats .entry)); counters = length (now (counters .entry)) })) (now (floats .entry)) ⌝ }
     ensures counters { λ _. ⌜ now (counters .exit) ≡ countersAfterDrawing (drawAnswer (record { width = width; height = height }) (now (words .entry)) (record { mask = length (now (mask .entry)); floats = length (now (floats .entry)); counters = length (now (counters .entry)) })) (now (counters .entry)) ⌝ }
 {
     let size = Size { width, height };
-    draw_number(mask::rasterize_into(mask, size, words, floats, counters))
+    outcome_number(mask::rasterize_into(mask, size, words, floats, counters))
+}
+
+#[no_mangle]
+pub extern "C" fn beamnettle_lay(
+    mask: &mut [u8],
+    width: usize,
+    height: usize,
+    other: &[u8],
+    other_width: usize,
+    other_height: usize,
+    offset_x: i32,
+    offset_y: i32,
+) -> u8
+    ensures number { λ r. ⌜ r ≡ outcomeNumber (layAnswer (record { width = width; height = height }) (record { width = «other_width»; height = «other_height» }) (length (now (mask .entry))) (length (now (other .entry)))) ⌝ }
+    ensures cells { λ _. ⌜ now (mask .exit) ≡ maskAfterLaying (layAnswer (record { width = width; height = height }) (record { width = «other_width»; height = «other_height» }) (length (now (mask .entry))) (length (now (other .entry)))) (record { width = width; height = height }) (record { width = «other_width»; height = «other_height» }) (record { x = «offset_x»; y = «offset_y» }) (now (mask .entry)) (now (other .entry)) ⌝ }
+{
+    let own_size = Size { width, height };
+    let other_size = Size {
+        width: other_width,
+        height: other_height,
+    };
+    let offset = Offset {
+        x: offset_x,
+        y: offset_y,
+    };
+    outcome_number(mask::intersect(mask, own_size, other, other_size, offset))
 }
 
 // ---- lent floats
@@ -352,4 +386,24 @@ pub extern "C" fn beamnettle_contains(k: &[f32], b: &[f32]) -> u8
         return TOO_SHORT;
     }
     test_number(coverage_in(k).contains(box_in(b)))
+}
+
+// ---- the touch list
+
+fn touch_number(answer: TouchAnswer) -> u32
+    ensures { λ r. ⌜ r ≡ touchNumber answer ⌝ }
+{
+    match answer {
+        TouchAnswer::Frame(k) => FIRST_PLACE + k as u32,
+        TouchAnswer::NoFrame => NO_FRAME,
+        TouchAnswer::Refused(fault) => fault.number() as u32,
+    }
+}
+
+// Proved by hand, as `touch::touch` is: the borrow checker covers no function with a slice of structs.
+#[no_mangle]
+pub extern "C" fn beamnettle_touch(boxes: &[RoundedBox], fringe: f32, x: f32, y: f32) -> u32
+    ensures { λ r. ⌜ TouchNumber (now (boxes .entry)) fringe (pointOf x y) r ⌝ }
+{
+    touch_number(touch::touch(boxes, fringe, x, y))
 }

@@ -548,9 +548,6 @@ module _ (lo hi : Float) (first pen j : ℕ) (a : Float) (Lo : Num lo (natᶠ 40
         nothing : (x y z : Fraction) → x +ᶠ (y +ᶠ (z +ᶠ (natᶠ 0 +ᶠ natᶠ 0))) ≈ᶠ x +ᶠ (y +ᶠ z)
         nothing x y z = over (x ∷ y ∷ z ∷ natᶠ 0 ∷ []) (λ N n X Y Z O. eq-at N (search at) (search at) n (omega (arith, O .is)))
 
-        of-lt : {x y : Fraction} → x <ᶠ y → x ≤ᶠ y
-        of-lt {x} {y} h = over (x ∷ y ∷ []) (λ N n X Y. le-at N X Y n (omega (arith, at-lt N X Y n h)))
-
     -- the sum of all but the last entry
     all-but : Near (val (a ⊗ head) +ᶠ (val x2 +ᶠ (natᶠ k *ᶠ val x3 +ᶠ val x4))) (val a *ᶠ (natᶠ 1 -ᶠ t)) restError
     all-but =

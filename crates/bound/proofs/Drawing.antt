@@ -1,12 +1,11 @@
 -- A drawing's cell, from those of its groups: bytes add up to 255, shares to 1, and the errors add up. Assumes nothing.
 use mathlib.Core.Path.{_≡_, refl, sym, ap, _∙_}
-use mathlib.Core.List.{List, [], _∷_, _++_}
+use mathlib.Core.List.{List, [], _∷_}
 use Prim.Native.Nat.{ℕ, zero, suc, _+_, _*_, _≤_, _<_, min}
 use native.Mathlib.Nat.{not-suc-le-zero, le-of-suc-le-suc}
 use native.Mathlib.Decide.{decLe}
 use native.Mathlib.Omega.{arith}
-use lib.ListN.{length, getD, replicate, length-append, length-replicate, getD-replicate, List·getD-append}
-use lib.Seq.{getD-append-add}
+use lib.ListN.{length, getD, replicate, length-replicate, getD-replicate}
 use Rattle.fraction.specs.Fraction.{Fraction, _≤ᶠ_, _≈ᶠ_, natᶠ, _/2^_, _+ᶠ_, _*ᶠ_, minᶠ, Near}
 use Rattle.fraction.proofs.Linear.{at-le, at-eq, eq-at, add-at, scale-at, over, lit≈}
 use Rattle.fraction.proofs.Order.{of-eq, sym≈, trans≈, mul-cong}

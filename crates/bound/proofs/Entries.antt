@@ -8,7 +8,7 @@ use native.Mathlib.Nat.{not-suc-le-zero, le-of-suc-le-suc, not-le-of-lt}
 use native.Mathlib.Omega.{arith}
 use lib.Dec.{T, ltb, eqb, eqb→eq, ltb→lt, nltb→le, lt→ltb, eqb-refl, eqb·suc-suc, eqb·zero-suc, eqb·suc-zero, T-not, not-T}
 use lib.Ieee.Bits.{is-true, is-false}
-use lib.ListN.{length, getD, set, length-set}
+use lib.ListN.{length, getD, set}
 use lib.Ieee.{Float, nan, binary32, fits, ne}
 use lib.Ieee.Scale.{finite}
 use Rattle.fraction.specs.Fraction.{Fraction, _≤ᶠ_, _≈ᶠ_, natᶠ, _+ᶠ_, absᶠ, Within}
@@ -18,6 +18,7 @@ use Rattle.fraction.proofs.Near.{within-add, within-self, sumᶠ}
 use Rattle.fraction.proofs.Abs.{abs-nonneg, within-abs}
 use Rattle.rounding.specs.Value.{val}
 use Rattle.float.specs.Ops.{_⊕_, f0}
+use Rattle.row.proofs.Adding.{length-add}
 use Rattle.row.specs.Row.{Cells, addOf}
 
 pub record Entry : Type 0 where
@@ -271,15 +272,6 @@ getD-set (y ∷ l) zero (suc i) x d h = rw (eqb·zero-suc i)
 getD-set (y ∷ l) (suc j) zero x d h = rw (eqb·suc-zero j)
 getD-set (y ∷ l) (suc j) (suc i) x d h = rw (eqb·suc-suc j i) (getD-set l j i x d (le-of-suc-le-suc h))
 
-pub add-length : (cells : Cells) (j : ℕ) (f : Float) → length (addOf cells j f) ≡ length cells
-unfolding addOf
-add-length cells j f = go (ltb j (length cells)) (ne f f0)
-  where
-    go : (a b : Bool) → length (cond a (cond b (set cells j (getD cells j nan ⊕ f)) cells) cells) ≡ length cells
-    go true true = length-set cells j (getD cells j nan ⊕ f)
-    go true false = refl
-    go false b = refl
-
 add-get : (cells : Cells) (j i : ℕ) (f : Float) → i < length cells → getD (addOf cells j f) i nan ≡ bump (eqb j i) (getD cells i nan) f
 unfolding addOf
 add-get cells j i f h = go (ltb j (length cells)) refl (ne f f0) refl
@@ -303,13 +295,13 @@ add-get cells j i f h = go (ltb j (length cells)) refl (ne f f0) refl
 pub added-length : (cells : Cells) (l : List Entry) → length (added cells l) ≡ length cells
 unfolding added
 added-length cells [] = refl
-added-length cells (e ∷ es) = added-length (addOf cells (e .cell) (e .amount)) es ∙ add-length cells (e .cell) (e .amount)
+added-length cells (e ∷ es) = added-length (addOf cells (e .cell) (e .amount)) es ∙ length-add cells (e .cell) (e .amount)
 
 pub added-get : (cells : Cells) (l : List Entry) (i : ℕ) → i < length cells → getD (added cells l) i nan ≡ area i (getD cells i nan) l
 unfolding added
 added-get cells [] i h = refl
 added-get cells (e ∷ es) i h =
-    added-get (addOf cells (e .cell) (e .amount)) es i (omega (arith, add-length cells (e .cell) (e .amount)))
+    added-get (addOf cells (e .cell) (e .amount)) es i (omega (arith, length-add cells (e .cell) (e .amount)))
     ∙ ap (λ (z : Float). area i z es) (add-get cells (e .cell) i (e .amount) h)
 
 pub added-append : (cells : Cells) (l m : List Entry) → added cells (l ++ m) ≡ added (added cells l) m

@@ -8,8 +8,9 @@ use lib.ListN.{length}
 use lib.Ieee.{Float, lt, le}
 use Rattle.float.specs.Ops.{_⊕_, _⊖_, _⊗_, _⊘_, f0, f½, f1}
 use Rattle.float.specs.Whole.{columnOf, ofWhole}
+use Rattle.row.proofs.Adding.{length-add}
 use Rattle.row.specs.Row.{Cells, addOf, evenlyOf, singleOf, betweenOf, acrossOf, ceilColumn, insideOf, clipOf, leftEnd, rightEnd, spanBy}
-use Rattle.bound.proofs.Entries.{Entry, entry, added, add-length, added-append}
+use Rattle.bound.proofs.Entries.{Entry, entry, added, added-append}
 
 unfoldable pub evenE : ℕ → ℕ → Float → List Entry
 evenE zero cell amount = []
@@ -136,7 +137,7 @@ added-clip n cells a lo hi ih =
     added-cond (le W lo) [] (cond (le hi f0) (entry 0 a ∷ []) l3) cells cells (cond (le hi f0) (addOf cells 0 a) c3) (unfold added in refl)
     (added-cond (le hi f0) (entry 0 a ∷ []) l3 cells (addOf cells 0 a) c3 (unfold added in refl)
     (added-cond (lt lo f0) (entry 0 (a ⊗ o) ∷ spanE w n f0 hi (a ⊗ (f1 ⊖ o))) l4 cells (spanBy n (addOf cells 0 (a ⊗ o)) f0 hi (a ⊗ (f1 ⊖ o))) c4
-    (unfold added in ih (addOf cells 0 (a ⊗ o)) f0 hi (a ⊗ (f1 ⊖ o)) (add-length cells 0 (a ⊗ o)))
+    (unfold added in ih (addOf cells 0 (a ⊗ o)) f0 hi (a ⊗ (f1 ⊖ o)) (length-add cells 0 (a ⊗ o)))
     (added-cond (lt W hi) (spanE w n lo W part) (insideE lo hi a) cells (spanBy n cells lo W part) (insideOf cells lo hi a) (ih cells lo W part refl) (added-inside cells lo hi a))))
 
 -- THE MODEL

@@ -1,5 +1,5 @@
 // Standard input, read line by line.
-use crate::fields::MOST_LINE;
+use fields::MOST_LINE;
 use libc::STDIN_FILENO;
 
 pub const CHUNK: usize = 65536;

@@ -1,7 +1,4 @@
 // Reads a list of calls, one a line, and writes an answer a line: README.md, 'A list of calls'.
-mod answers;
-mod boxes;
-mod fields;
 mod input;
 mod masks;
 
@@ -74,7 +71,11 @@ fn answer(
     if masks::has(line, name) {
         return on_buffer(line, name, run, next, s);
     }
-    kept(s, s.run, s.next, boxes::answer(line, name))
+    if fields::is(line, name, b"lay") {
+        let problem = masks::lay(line, name.end, run, s.run, next, s.next);
+        return kept(s, s.run, s.next, problem);
+    }
+    kept(s, s.run, s.next, box_calls::answer(line, name))
 }
 
 fn one_more(n: u64) -> u64 {

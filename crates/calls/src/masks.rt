@@ -1,11 +1,10 @@
 // The calls on a mask buffer.
-use crate::answers;
-use crate::fields;
-use crate::fields::Field;
-use crate::fields::MOST_LINE;
-use crate::fields::MOST_WORDS;
-use crate::fields::Problem;
 use coverage::Size;
+use fields::Field;
+use fields::MOST_LINE;
+use fields::MOST_WORDS;
+use fields::Problem;
+use laying::Offset;
 use libc::STDOUT_FILENO;
 
 pub const MOST_BYTES: usize = 65536;
@@ -285,6 +284,71 @@ fn draw(
         counters: at_most(counters.value, MOST_SCRATCH_COUNTERS),
     };
     draw_words(buffer, size, &words, lent)
+}
+
+// Lays what is lent of a buffer on what is lent of another, and answers.
+fn lay_lent(
+    mask: &mut [u8],
+    size: Size,
+    other: &[u8],
+    other_size: Size,
+    offset: Offset,
+    lent: usize,
+    other_lent: usize,
+) -> Problem {
+    if lent > mask.len() {
+        return Problem::BufferTooLong;
+    }
+    if other_lent > other.len() {
+        return Problem::BufferTooLong;
+    }
+    answers::outcome(mask::intersect(
+        &mut mask[..lent],
+        size,
+        &other[..other_lent],
+        other_size,
+        offset,
+    ));
+    Problem::Nothing
+}
+
+// Lays the next mask on the running one.
+pub fn lay(
+    line: &[u8; MOST_LINE],
+    at: usize,
+    run: &mut [u8; MOST_BYTES],
+    run_length: usize,
+    next: &[u8; MOST_BYTES],
+    next_length: usize,
+) -> Problem {
+    let width = fields::size_at(line, at);
+    let height = fields::size_at(line, width.at);
+    let other_width = fields::size_at(line, height.at);
+    let other_height = fields::size_at(line, other_width.at);
+    let x = fields::word_at(line, other_height.at);
+    let y = fields::word_at(line, x.at);
+    if !width.good || !height.good || !other_width.good || !other_height.good {
+        return Problem::NotANumber;
+    }
+    if !x.good || !y.good {
+        return Problem::NotANumber;
+    }
+    let Problem::Nothing = fields::at_end(line, y.at) else {
+        return Problem::FieldTooMany;
+    };
+    let size = Size {
+        width: width.value,
+        height: height.value,
+    };
+    let other_size = Size {
+        width: other_width.value,
+        height: other_height.value,
+    };
+    let offset = Offset {
+        x: x.value,
+        y: y.value,
+    };
+    lay_lent(run, size, next, other_size, offset, run_length, next_length)
 }
 
 // Answers the call that has a name, with the fields that stand behind its buffer's.

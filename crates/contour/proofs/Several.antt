@@ -1,16 +1,16 @@
 -- The contours of a group, one after another. Assumes nothing.
 use mathlib.Core.Path.{_≡_, refl, sym, ap, _∙_, subst}
 use mathlib.Core.List.{List, [], _∷_, _++_, append-assoc, append-nil}
-use Prim.Native.Nat.{ℕ, zero, suc, _+_, _-_, _*_, _≤_, _<_}
+use Prim.Native.Nat.{ℕ, _+_, _-_, _*_, _≤_}
 use native.Mathlib.Omega.{arith}
 use lib.IntN.{ℤ}
 use lib.ListN.{length, drop}
 use lib.Ieee.{Float}
-use Rattle.words.specs.Words.{Point, readCount, readPoints, readContours, readOr, pointsOf}
-use Rattle.words.specs.Scan.{countedOf, Fine, endOf}
+use Rattle.words.specs.Words.{Point, readPoints, readContours, readOr, pointsOf}
+use Rattle.words.specs.Scan.{Fine, endOf}
 use Rattle.words.specs.declared.Counted.{Counted}
 use Rattle.words.specs.declared.Counted.the-variants as counted
-use Rattle.words.proofs.Places.{NextContour, next-contour, no-contour}
+use Rattle.words.proofs.Places.{NextContour, no-contour}
 use Rattle.edge.specs.declared.Edge.{Edge}
 use Rattle.edge.specs.Edges.{contourOf, edgesOf}
 use Rattle.edge.specs.Stored.{Pushed}

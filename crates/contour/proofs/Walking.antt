@@ -6,13 +6,13 @@ use Prim.Native.Nat.{ℕ, zero, suc, _+_, _-_, _*_, _≤_, _<_}
 use native.Mathlib.Omega.{arith}
 use lib.Dec.{T, ltb}
 use lib.IntN.{ℤ, pos, negsuc}
-use lib.ListN.{length, drop}
+use lib.ListN.{drop}
 use lib.Ieee.{Float, binary32, inFloat}
 use borrow.Author.Tests.{ltb-false, lt-ltb, le-leb}
-use Rattle.words.specs.Words.{beyond, Point, Read, ok, readPoints, readOr}
+use Rattle.words.specs.Words.{beyond, Point, readPoints, readOr}
 use Rattle.words.specs.Scan.{Fine}
 use Rattle.words.proofs.Steps.{pointAt, PointThere}
-use Rattle.words.proofs.Places.{fine-read, pointsAt, PointsThere, points-there}
+use Rattle.words.proofs.Places.{fine-read, pointsAt, points-there}
 use Rattle.edge.specs.declared.Edge.{Edge}
 use Rattle.edge.specs.Edges.{coordinateOf, edgeOf, walkOf, lastOf, contourOf}
 use Rattle.edge.specs.Stored.{edgeBetween, Pushed}

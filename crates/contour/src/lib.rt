@@ -1,5 +1,6 @@
 // The contours of a group, read from a word list that was checked: their edges, stored in lent floats.
 use words::Counted;
+use words::Word;
 ghost use mathlib.Core.Path.{_≡_};
 ghost use mathlib.Core.Bool.{false};
 ghost use mathlib.Core.List.{[]};
@@ -17,7 +18,10 @@ fn coordinate_at(words: &[i32], at: usize) -> f32
     requires { ⌜ beyond (getD (now words) at (pos 0)) ≡ false ⌝ }
     ensures { λ r. ⌜ r ≡ coordinateOf (getD (now (words .entry)) at (pos 0)) ⌝ }
 {
-    (words[at] as f32) / 256.0
+    let Word::Value(word) = words::word_at(words, at) else {
+        return 0.0;
+    };
+    (word as f32) / 256.0
 }
 
 // Stores the edges of a closed contour of n points, whose words start at `at`, behind `stored`

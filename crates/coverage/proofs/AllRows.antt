@@ -21,7 +21,7 @@ use Rattle.edge.specs.Stored.{edgesAt}
 use Rattle.edge.specs.Table.{edgesIn, activeIn, Placed, firstIn, Joining, Joined}
 use Rattle.edge.proofs.Stored.{Same, same-edges, edges-length, take-same}
 use Rattle.edge.proofs.Linking.{from-same, next-same}
-use Rattle.coverage.specs.Resolving.{markWords, rowsAdded, edgesRow, edgesRows, Drawable, Drawn, Tabled, Clean}
+use Rattle.coverage.specs.Resolving.{markWords, rowsChanged, rowsAdded, edgesRow, edgesRows, Drawable, Drawn, Tabled, Clean}
 use Rattle.coverage.proofs.Rows.{rows-step, row-length, row-turn}
 use Rattle.coverage.proofs.Active.{keptOf, active-is, kept-next, few}
 
@@ -98,7 +98,7 @@ module _ (m₀ : List ℕ) (fs₀ : List Float) (cs₀ : List ℕ) (l : Layout) 
 
     -- all rows are drawn
     pub rows-done : height ≤ row → (mask ≡ edgesRows rule (l .edges) height es m₀) × Clean fs cs (l .edges) height
-    unfolding rowsAdded
+    unfolding rowsChanged
     rows-done h =
         let e : height - row ≡ 0 = omega arith in
         let w = s .within in
@@ -211,7 +211,7 @@ module _ (m₀ : List ℕ) (fs₀ : List Float) (cs₀ : List ℕ) (l : Layout) 
                 between = λ i p q. d .between i p q ∙ j .low i q ∙ s .between i p q;
                 kept-are = d .below ∙ ap (reachingBelow (ofWhole (suc row))) active-are ∙ kept-next es row;
                 rows = s .rows ∙ ap (λ (m : ℕ). take from mask ++ rowsAdded bytes (l .edges) m row (drop from mask)) c
-                    ∙ row-turn from (l .edges) mask line row-room wide bytes (height - (row + 1)) row (is ∙ ap (λ (y : List Edge). addBytes (take (from + l .edges - from) (drop from mask)) (edgesRow rule (l .edges) height row y)) active-are)
+                    ∙ row-turn from (l .edges) mask line row-room wide (λ r line. addBytes line (bytes r)) (height - (row + 1)) row (is ∙ ap (λ (y : List Edge). addBytes (take (from + l .edges - from) (drop from mask)) (edgesRow rule (l .edges) height row y)) active-are)
                     ∙ ap (λ (m : ℕ). take (from + l .edges) after ++ rowsAdded bytes (l .edges) (height - (row + 1)) m (drop (from + l .edges) after)) (sym (add-one row));
               }
             where

@@ -1,10 +1,10 @@
 -- A group's edges put into the table: its rows can be drawn, and come to the group's. Assumes nothing.
-use mathlib.Core.Path.{_≡_, refl, sym, ap, ap₂, _∙_, subst}
+use mathlib.Core.Path.{_≡_, sym, ap, ap₂, _∙_, subst}
 use mathlib.Core.Bool.{Bool}
-use mathlib.Core.List.{List, _∷_, _++_}
-use Prim.Native.Nat.{ℕ, zero, suc, _+_, _*_, _-_, _≤_, _<_}
+use mathlib.Core.List.{List, _++_}
+use Prim.Native.Nat.{ℕ, _+_, _*_, _-_, _≤_, _<_}
 use native.Mathlib.Omega.{arith}
-use lib.ListN.{length, getD, take, drop, replicate, length-take, length-drop, getD-replicate, List·getD-append}
+use lib.ListN.{length, getD, take, drop, length-take, length-drop, getD-replicate, List·getD-append}
 use lib.Seq.{getD-append-add, getD-drop, getD-take, take-take, length-take-le}
 use lib.Ieee.{Float}
 use borrow.Rule.Slice.PartMut.{putMid, take-put, same-len-mid}
@@ -20,8 +20,8 @@ use Rattle.edge.proofs.Linking.{nexts-same}
 use Rattle.edge.proofs.StartRows.{starts-below}
 use Rattle.coverage.specs.declared.Size.{Size}
 use Rattle.coverage.specs.Drawing.{groupRow}
-use Rattle.coverage.specs.Resolving.{markWords, Room, Clean, Holds, Stored, rowsAdded, edgesRow, edgesRows, Tabled}
-use Rattle.coverage.proofs.Rows.{rows-same}
+use Rattle.coverage.specs.Resolving.{markWords, Room, Clean, Holds, Stored, rowsChanged, rowsAdded, edgesRow, edgesRows, Tabled}
+use Rattle.coverage.proofs.Rows.{take-alike, rows-same}
 
 -- where the parts of the scratch stand for a list of so many points
 abbrev pub layoutOf : ℕ → ℕ → ℕ → Layout
@@ -35,7 +35,7 @@ group-row size g r es rule e f = ap₂ (λ (x : List Edge) (y : Bool). edgesRow 
 
 -- a mask without rows stays as it is
 pub no-rows : (size : Size) (g : Group) (mask : List ℕ) → size .height ≡ 0 → mask ≡ rowsAdded (groupRow size g) (size .width) (size .height) 0 mask
-unfolding rowsAdded
+unfolding rowsChanged
 no-rows size g mask z = ap (λ (n : ℕ). rowsAdded (groupRow size g) (size .width) n 0 mask) (sym z)
 
 module _ (mask : List ℕ) (fs : List Float) (cs : List ℕ) (size : Size) (points count : ℕ) (rule : Bool) (m : Room mask fs cs size points) (c : Clean fs cs (size .width) (size .height)) (few : count ≤ points) where
@@ -100,14 +100,10 @@ module _ (mask : List ℕ) (fs : List Float) (cs : List ℕ) (size : Size) (poin
           heads = rw cl (m .heads);
           placed = record { edges = p .edges; nexts = p .nexts; active = omega arith; few = p .few };
           cells = take-same width gs fs (n .long) (λ i h. n .low i (omega arith)) ∙ c .cells;
-          marks = front ∙ sym (take-take words (words + height) cs (omega arith)) ∙ ap (take words) (c .counts) ∙ fewer words height;
+          marks = front ∙ sym (take-take words (words + height) cs (omega arith)) ∙ ap (take words) (c .counts) ∙ take-alike words height 0;
           head = λ r h. head-at r h ∙ t .head r (omega arith) ∙ ap (firstIn gs l r 0) z;
           next = t .next;
         }
-      where
-        fewer : (a b : ℕ) → take a (replicate {A = ℕ} (a + b) 0) ≡ replicate a 0
-        fewer zero b = refl
-        fewer (suc a) b = let e : suc a + b ≡ suc (a + b) = omega arith in ap (λ (k : ℕ). take (suc a) (replicate {A = ℕ} k 0)) e ∙ ap (λ (x : List ℕ). 0 ∷ x) (fewer a b)
 
     unmoved : edgesIn gs l ≡ edgesAt fs width count
     unmoved = same-edges count gs fs width (nexts-same fs gs l placed n)

@@ -51,11 +51,14 @@ pub record Stored (floats : List Float) (size : Size) (count : ℕ) (rule : Bool
   pub group : Group
   pub holds : Holds floats size count rule group
 
--- a mask whose n rows from `row` on, `width` bytes each, have each row's bytes added
-unfoldable pub rowsAdded : (ℕ → List ℕ) → ℕ → ℕ → ℕ → List ℕ → List ℕ
-unfolding addBytes
-rowsAdded bytes width zero row mask = mask
-rowsAdded bytes width (suc n) row mask = addBytes (take width mask) (bytes row) ++ rowsAdded bytes width n (suc row) (drop width mask)
+-- a mask whose n rows from `row` on, `width` bytes each, are changed, each line by its row's change
+unfoldable pub rowsChanged : (ℕ → List ℕ → List ℕ) → ℕ → ℕ → ℕ → List ℕ → List ℕ
+rowsChanged change width zero row mask = mask
+rowsChanged change width (suc n) row mask = change row (take width mask) ++ rowsChanged change width n (suc row) (drop width mask)
+
+-- .. have each row's bytes added
+abbrev pub rowsAdded : (ℕ → List ℕ) → ℕ → ℕ → ℕ → List ℕ → List ℕ
+rowsAdded bytes width n row mask = rowsChanged (λ r line. addBytes line (bytes r)) width n row mask
 
 -- ---- a row
 

@@ -40,7 +40,7 @@ at-most p q = go (decLt p q) (ℕ-discrete p q)
     go (no l) (yes e) = rw (le-ltb p q (omega arith), eq-eqb p q e, le-leb p q (omega arith)) refl
     go (no l) (no e) = rw (le-ltb p q (omega arith), ne-eqb p q e, lt-leb p q (omega arith)) refl
 
-and-no : (b : Bool) → (b && false) ≡ false
+pub and-no : (b : Bool) → (b && false) ≡ false
 and-no true = refl
 and-no false = refl
 

@@ -1,7 +1,5 @@
 -- Outline: what is refused. Contour: the walk over the verbs. Fit: the parallelogram, and the public call. Kept: what the code keeps of them, for its parts.
--- Examples: document 01's starred outlines.
 pub mod Outline
 pub mod Contour
 pub mod Fit
 pub mod Kept
-pub mod Examples

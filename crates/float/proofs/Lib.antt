@@ -16,6 +16,7 @@ pub mod Fields
 pub mod Narrowing
 pub mod Roots
 pub mod RootLoop
+pub mod RootExtend
 pub mod Rooting
 pub mod Whole
 pub mod Cast

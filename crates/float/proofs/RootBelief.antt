@@ -16,9 +16,10 @@ use lib.Ieee.Digits.{size-lt, size-reaches}
 use lib.Ieee.Exact.{units-val}
 use lib.Ieee.Fits.{down-pos}
 use lib.Ieee.Scale.{finite}
+use Rattle.rounding.proofs.Grid.{prec-pos}
 use Rattle.rounding.proofs.Base.{value-is, fits-parts}
 use Rattle.float.specs.Root.{wholeRoot, roundRoot, sqrtOf}
-use Rattle.float.proofs.Pattern.{split, prec-pos}
+use Rattle.float.proofs.Pattern.{split}
 use Rattle.float.proofs.Shift.{cmp-lt, cmp-eq, cmp-gt}
 use Rattle.float.proofs.Roots.{IsRoot, whole-root-is, root-lt, sq-mono, in-steps}
 

@@ -9,9 +9,10 @@ use lib.Dec.{T, leb, leb→le, nleb→lt, lit<}
 use lib.Pow.{pow-add, pow-pos}
 use lib.Ieee.{Float, Format, prec, low, size, units, nearest}
 use lib.Ieee.Digits.{size-le, size-lt}
+use Rattle.rounding.proofs.Grid.{prec-pos}
 use Rattle.float.specs.Root.{rootDigit, rootBelow, wholeRoot, roundRoot}
 use Rattle.float.specs.Parts.{sideOfHalf, roundedHalf}
-use Rattle.float.proofs.Pattern.{size-gt, prec-pos, half-of}
+use Rattle.float.proofs.Pattern.{size-gt, half-of}
 use Rattle.float.proofs.Shift.{cmp-lt, cmp-eq, cmp-gt}
 
 -- ---- squares

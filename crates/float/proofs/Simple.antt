@@ -35,7 +35,7 @@ no-power : (k : ℕ) → 2 ^ suc k ≡ 1 → ⊥
 no-power k h = let p : 0 < 2 ^ k = pow-pos k in omega arith
 
 -- a zero is written in one way
-flat : (e : ℤ) → up e * down e ≡ 1 → e ≡ pos 0
+pub flat : (e : ℤ) → up e * down e ≡ 1 → e ≡ pos 0
 flat (pos zero) h = refl
 flat (pos (suc k)) h = absurd (no-power k (sym (mul-one (2 ^ suc k)) ∙ h))
 flat (negsuc k) h = absurd (no-power k (sym (one-mul (2 ^ suc k)) ∙ h))

@@ -30,6 +30,11 @@ pub record RootDigits (a steps root rest : ℕ) : Type 0 where
   pub left : rest ≤ 2 * root
   pub short : root < 2 ^ steps
 
+-- root is the whole root, with rest left over, of n * p * p + high * p + low, where n is the square of `from` and `over`
+pub record Extended (from over p high low root rest : ℕ) : Type 0 where
+  pub square : root * root + rest ≡ (from * from + over) * (p * p) + high * p + low
+  pub left : rest ≤ 2 * root
+
 -- d moved up by s places, where e + s is even, to 63 or 64 digits
 pub record AlignedBy (d e a s : ℕ) : Type 0 where
   pub moved : a ≡ d * 2 ^ s

@@ -14,7 +14,7 @@ ghost use Rattle.float.specs.Simple.{absOf, minOf, maxOf, signumOf};
 ghost use Rattle.float.specs.Width.{narrowOf};
 ghost use Rattle.float.specs.Whole.{stepAway, wholeDiv, integralOf, floorOf, ceilOf, columnOf, byteOf, ofWhole};
 ghost use Rattle.float.specs.Root.{sqrtOf, hypotOf};
-ghost use Rattle.float.specs.Parts.{Fields, Unpacked, patternOf, RootDigits, AlignedBy, roundedHalf, RootParts};
+ghost use Rattle.float.specs.Parts.{Fields, Unpacked, patternOf, RootDigits, Extended, AlignedBy, roundedHalf, RootParts};
 
 // No constant can be an infinity, so it is a function.
 pub fn infinity() -> f32
@@ -261,7 +261,7 @@ struct Root {
 
 // The first `steps` binary digits of a's root, a pair of a's digits for each, from the highest, and
 // of zeros after those 64.
-fn root_digits(a: u64, steps: u64) -> Root
+fn root_by_digits(a: u64, steps: u64) -> Root
     requires { ⌜ steps ≤ 54 ⌝ }
     ensures { λ r. ⌜ RootDigits a steps (r .root) (r .rest) ⌝ }
 {
@@ -281,6 +281,55 @@ fn root_digits(a: u64, steps: u64) -> Root
         i += 1;
     }
     Root { root, rest }
+}
+
+// The root of n * p * p + high * p + low, where r is that of n: one division finds as many digits as
+// p has, at most one too many.
+fn extend_root(r: Root, p: u64, high: u64, low: u64) -> Root
+    requires { ⌜ (r .root < 2 ^ 27) × (r .rest ≤ 2 * r .root) × (p ≤ 2 ^ 27) × (p ≤ 2 * r .root) × (high < p) × (low < p) ⌝ }
+    ensures { λ q. ⌜ Extended (r .root) (r .rest) p high low (q .root) (q .rest) ⌝ }
+{
+    let twice = 2 * r.root;
+    let left = r.rest * p + high;
+    let digits = left / twice;
+    let over = left % twice * p + low;
+    let square = digits * digits;
+    let root = r.root * p + digits;
+    if square <= over {
+        return Root {
+            root,
+            rest: over - square,
+        };
+    }
+    Root {
+        root: root - 1,
+        rest: over + 2 * root - 1 - square,
+    }
+}
+
+// The first `steps` binary digits of the root of an a that has 63 or 64, one more than a format
+// keeps: 13 or 14 of them one by one, the others by a division or two.
+fn root_digits(a: u64, steps: u64) -> Root
+    requires { ⌜ (steps ≡ 25) ⊎ (steps ≡ 54) ⌝ }
+    requires { ⌜ 2 ^ 62 ≤ a ⌝ }
+    ensures { λ r. ⌜ RootDigits a steps (r .root) (r .rest) ⌝ }
+{
+    if steps == 25 {
+        return extend_root(
+            root_by_digits(a, 13),
+            0x1000,
+            a % 0x40_0000_0000 / 0x400_0000,
+            a % 0x400_0000 / 0x4000,
+        );
+    }
+    let fourteen = root_by_digits(a, 14);
+    let half = extend_root(
+        fourteen,
+        0x2000,
+        a % 0x10_0000_0000 / 0x80_0000,
+        a % 0x80_0000 / 0x400,
+    );
+    extend_root(half, 0x800_0000, a % 0x400 * 0x2_0000, 0)
 }
 
 // root / 2 to the nearest whole number: below, at or above a half by root's last digit, with rest 0
@@ -323,7 +372,7 @@ fn align(d: u64, e: u64) -> Aligned
 fn root_parts(d: u64, e: u64, keep: u64, bias: u64) -> Parts
     requires { ⌜ 0 < d ⌝ }
     requires { ⌜ d < 2 ^ keep ⌝ }
-    requires { ⌜ keep ≤ 53 ⌝ }
+    requires { ⌜ (keep ≡ 24) ⊎ (keep ≡ 53) ⌝ }
     requires { ⌜ e < 2 ^ 11 ⌝ }
     requires { ⌜ 64 ≤ bias ⌝ }
     requires { ⌜ bias < 2 ^ 11 ⌝ }

@@ -1,16 +1,15 @@
 -- Sizes: the triangle inequality, products. Assumes nothing.
 use mathlib.Core.Path.{_≡_, refl, sym, ap, _∙_}
-use mathlib.Core.List.{List, [], _∷_}
-use Prim.Native.Nat.{ℕ, zero, suc, _+_, _-_, _*_, _≤_, _<_}
-use native.Mathlib.Nat.{le-dest, add-comm, mul-comm, mul-pos}
+use mathlib.Core.List.{[], _∷_}
+use Prim.Native.Nat.{ℕ, _+_, _-_, _*_, _≤_}
+use native.Mathlib.Nat.{le-dest}
 use native.Mathlib.Decide.{decLe}
 use native.Mathlib.Omega.{arith}
-use Rattle.fraction.specs.Whole.{Whole, _+ʷ_, _-ʷ_, _*ʷ_, _×ℕ_, negʷ, natʷ, sizeʷ, _≤ʷ_, _≈ʷ_}
-use Rattle.fraction.specs.Fraction.{Fraction, _≤ᶠ_, _<ᶠ_, _≈ᶠ_, natᶠ, _+ᶠ_, _-ᶠ_, _*ᶠ_, negᶠ, absᶠ, invᶠ, Near, Within}
-use Rattle.fraction.proofs.Linear.{At, at, at-le, at-eq, le-at, eq-at, add-at, sub-at, neg-at, abs-at, mul-at, self, over, trans}
-use Rattle.fraction.proofs.Order.{refl≤, add-mono, mul-one, inv-mul, of-eq, sym≈, trans≈, mul-comm as *-comm, mul-mono, mul-cong, mul-assoc, mul-add, mul-nonneg}
-use Rattle.fraction.proofs.Near.{near-mul, near-trans, near-weaken, near-sym, near-of-within, within-of-near, within-mul, within-of-abs, abs-of-within, within-near, within-add, within-weaken, within-same}
-use Rattle.fraction.proofs.Ring.{Rep, rep, reps, ring, cong-add, cong-sub, cong-mul}
+use Rattle.fraction.specs.Whole.{Whole, _*ʷ_, negʷ, sizeʷ}
+use Rattle.fraction.specs.Fraction.{Fraction, _≤ᶠ_, _≈ᶠ_, natᶠ, _+ᶠ_, _*ᶠ_, negᶠ, absᶠ, Within}
+use Rattle.fraction.proofs.Linear.{at-le, at-eq, eq-at, neg-at, abs-at, over}
+use Rattle.fraction.proofs.Order.{refl≤}
+use Rattle.fraction.proofs.Near.{within-of-abs, abs-of-within, within-add}
 
 -- ---- |x| bounds x, is not negative, and is the least that does (`abs-of-within`)
 pub within-abs : (x : Fraction) → Within x (absᶠ x)

@@ -1,14 +1,14 @@
 -- The smaller and the larger of two, and a number held between 0 and 1. `min-at`, `max-at` and `clamp-at` bring them over a common denominator, where `omega` reads
 -- `min` and `max`: so a fact about them is one line, as a linear one is. Assumes nothing.
-use mathlib.Core.Path.{_≡_, refl, sym, ap}
-use mathlib.Core.List.{List, [], _∷_}
+use mathlib.Core.Path.{_≡_, refl, ap}
+use mathlib.Core.List.{[], _∷_}
 use mathlib.Core.Bool.{Bool, true, false, not, cond}
 use Prim.Native.Nat.{ℕ, _+_, _*_, _≤_, _<_, min, max}
 use native.Mathlib.Omega.{arith}
 use lib.Dec.{T, nleb→lt, nltb→le}
-use Rattle.fraction.specs.Whole.{Whole, _×ℕ_, natʷ, _≤ʷ_, _≈ʷ_}
-use Rattle.fraction.specs.Fraction.{Fraction, _≤ᶠ_, _<ᶠ_, _≈ᶠ_, leᵇ, ltᵇ, natᶠ, _+ᶠ_, minᶠ, maxᶠ, clampᶠ, Near}
-use Rattle.fraction.proofs.Linear.{At, at, at-le, at-eq, le-at, eq-at, add-at, over, lit, lit<ᶠ}
+use Rattle.fraction.specs.Whole.{Whole, _×ℕ_, _≈ʷ_}
+use Rattle.fraction.specs.Fraction.{Fraction, _≤ᶠ_, _<ᶠ_, _≈ᶠ_, leᵇ, ltᵇ, natᶠ, minᶠ, maxᶠ, clampᶠ, Near}
+use Rattle.fraction.proofs.Linear.{At, at-le, at-eq, le-at, eq-at, add-at, over, lit, lit<ᶠ}
 use Rattle.fraction.proofs.Order.{of-lt, lt-not-le}
 
 -- ---- what the test says

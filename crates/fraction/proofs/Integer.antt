@@ -1,12 +1,12 @@
 -- The integers of `lib.IntN` as differences: sums, products and the order go over, and two integers with the same difference are equal. So a law of ℤ is one line of `omega`. Assumes nothing.
-use mathlib.Core.Path.{_≡_, refl, sym, ap, _∙_}
+use mathlib.Core.Path.{_≡_, refl, ap}
 use mathlib.Core.Bool.{Bool, true, false, not, cond}
 use Prim.Native.Nat.{ℕ, zero, suc, _+_, _-_, _*_, _≤_, _<_}
 use native.Mathlib.Omega.{arith}
-use lib.IntN.{ℤ, pos, negsuc, negℤ, subℕ, _+ℤ_, _-ℤ_, _*ℤ_}
+use lib.IntN.{ℤ, pos, negsuc, negℤ, subℕ, _+ℤ_, _*ℤ_}
 use lib.Dec.{T, ltb, ltb→lt, nltb→le, leb→le, le→leb}
-use lib.Signed.{_≤ℤ_, leZ}
-use Rattle.fraction.specs.Whole.{Whole, _+ʷ_, _-ʷ_, _*ʷ_, negʷ, natʷ, ofℤ, _≤ʷ_, _≈ʷ_}
+use lib.Signed.{_≤ℤ_}
+use Rattle.fraction.specs.Whole.{_+ʷ_, _-ʷ_, _*ʷ_, negʷ, natʷ, ofℤ, _≤ʷ_, _≈ʷ_}
 
 pub of-inj : (a b : ℤ) → ofℤ a ≈ʷ ofℤ b → a ≡ b
 of-inj (pos a) (pos b) h = ap pos (omega (arith, h))

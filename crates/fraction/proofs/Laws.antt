@@ -1,12 +1,11 @@
 -- The laws of specs/Laws.antt. Assumes nothing.
-use mathlib.Core.Path.{_≡_, refl}
-use mathlib.Core.List.{List, [], _∷_}
+use mathlib.Core.Path.{refl}
+use mathlib.Core.List.{[], _∷_}
 use Prim.Native.Nat.{ℕ, _+_, _*_, _≤_}
 use native.Mathlib.Omega.{arith}
-use Rattle.fraction.specs.Whole.{Whole, natʷ, _≈ʷ_, _≤ʷ_}
-use Rattle.fraction.specs.Fraction.{Fraction, _≤ᶠ_, _<ᶠ_, _≈ᶠ_, natᶠ, _+ᶠ_, _-ᶠ_, _*ᶠ_, negᶠ, absᶠ, minᶠ, maxᶠ, clampᶠ, Near}
+use Rattle.fraction.specs.Fraction.{Fraction, _≤ᶠ_, _<ᶠ_, _≈ᶠ_, natᶠ, _+ᶠ_, _-ᶠ_, _*ᶠ_, negᶠ, absᶠ}
 use Rattle.fraction.specs.Laws.{OrderLaws, FieldLaws, SizeLaws, ErrorLaws}
-use Rattle.fraction.proofs.Linear.{At, at, at-le, at-lt, at-eq, le-at, eq-at, add-at, sub-at, neg-at, abs-at, over, lit, trans}
+use Rattle.fraction.proofs.Linear.{at, at-le, at-lt, eq-at, neg-at, abs-at, over, trans}
 use Rattle.fraction.proofs.Order as order
 use Rattle.fraction.proofs.Near as near
 use Rattle.fraction.proofs.Ring.{cong-add, cong-mul}

@@ -1,12 +1,11 @@
 -- Errors and bounds: `Near x y e` is |x - y| ≤ e and `Within x b` is |x| ≤ b. How they go through sums and products. Assumes nothing.
-use mathlib.Core.Path.{_≡_, refl, sym, ap}
-use mathlib.Core.List.{List, [], _∷_}
+use mathlib.Core.List.{[], _∷_}
 use Prim.Native.Nat.{ℕ, zero, suc, _+_, _*_, _≤_, _<_}
 use native.Mathlib.Nat.{mul-pos}
 use native.Mathlib.Omega.{arith}
-use Rattle.fraction.specs.Whole.{Whole, _+ʷ_, _-ʷ_, _*ʷ_, _×ℕ_, negʷ, natʷ, _≤ʷ_, _≈ʷ_}
-use Rattle.fraction.specs.Fraction.{Fraction, _≤ᶠ_, _≈ᶠ_, natᶠ, _+ᶠ_, _-ᶠ_, _*ᶠ_, negᶠ, absᶠ, Near, Within}
-use Rattle.fraction.proofs.Linear.{At, at, at-le, at-eq, le-at, eq-at, add-at, sub-at, neg-at, abs-at, mul-at, self, over, trans}
+use Rattle.fraction.specs.Whole.{Whole, _+ʷ_, _-ʷ_, _*ʷ_, negʷ, natʷ, _≤ʷ_}
+use Rattle.fraction.specs.Fraction.{Fraction, _≤ᶠ_, _≈ᶠ_, natᶠ, _+ᶠ_, _-ᶠ_, _*ᶠ_, absᶠ, Near, Within}
+use Rattle.fraction.proofs.Linear.{at, at-le, at-eq, le-at, eq-at, add-at, sub-at, neg-at, abs-at, mul-at, over, trans}
 use Rattle.fraction.proofs.Order.{mono, mul-sub, sub-mul, of-eq, sym≈, zero-mul, one-more}
 
 -- ---- Near: one after another, sums, a larger error

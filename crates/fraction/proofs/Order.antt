@@ -1,15 +1,15 @@
 -- The laws of fractions: the order, products, sizes. A linear law is one line by `Linear`; a law of products is `omega` over the naturals that it comes to. Assumes nothing.
 use mathlib.Core.Path.{_≡_, refl, sym, ap}
-use mathlib.Core.List.{List, [], _∷_}
+use mathlib.Core.List.{[], _∷_}
 use mathlib.Core.Logic.{_⊎_, inl, inr}
 use mathlib.Core.Bool.{Bool, true, false, not, cond}
-use Prim.Native.Nat.{ℕ, zero, suc, _+_, _-_, _*_, _≤_, _<_, max}
+use Prim.Native.Nat.{ℕ, suc, _+_, _-_, _*_, _≤_, _<_, max}
 use native.Mathlib.Nat.{le-dest, le-refl as ℕ-refl, le-of-eq, add-comm, mul-le-mul-left, mul-pos}
 use native.Mathlib.Decide.{decLe}
 use native.Mathlib.Omega.{arith}
-use lib.Dec.{T, ltb, leb→le, nleb→lt, ltb→lt, nltb→le}
-use Rattle.fraction.specs.Whole.{Whole, _+ʷ_, _-ʷ_, _*ʷ_, _×ℕ_, negʷ, natʷ, sizeʷ, _≤ʷ_, _<ʷ_, _≈ʷ_}
-use Rattle.fraction.specs.Fraction.{Fraction, _≤ᶠ_, _<ᶠ_, _≈ᶠ_, leᵇ, natᶠ, _+ᶠ_, _-ᶠ_, _*ᶠ_, negᶠ, absᶠ, minᶠ, maxᶠ, invᶠ, _/ᶠ_, Near, Within}
+use lib.Dec.{T, ltb, ltb→lt, nltb→le}
+use Rattle.fraction.specs.Whole.{Whole, _*ʷ_, negʷ, natʷ, _≤ʷ_}
+use Rattle.fraction.specs.Fraction.{Fraction, _≤ᶠ_, _<ᶠ_, _≈ᶠ_, natᶠ, _+ᶠ_, _-ᶠ_, _*ᶠ_, negᶠ, invᶠ, _/ᶠ_}
 use Rattle.fraction.proofs.Linear.{At, at, at-le, at-lt, at-eq, le-at, lt-at, eq-at, add-at, sub-at, mul-at, cong, self, over, trans}
 
 -- ---- ≤ and ≈

@@ -1,9 +1,8 @@
 -- The error of a quotient, where the divisor's size is known from below. Assumes nothing.
-use mathlib.Core.List.{List, [], _∷_}
+use mathlib.Core.List.{[], _∷_}
 use native.Mathlib.Omega.{arith}
-use Rattle.fraction.specs.Whole.{natʷ, _≈ʷ_}
 use Rattle.fraction.specs.Fraction.{Fraction, _≤ᶠ_, _<ᶠ_, _≈ᶠ_, natᶠ, _+ᶠ_, _-ᶠ_, _*ᶠ_, _/ᶠ_, absᶠ, Near, Within}
-use Rattle.fraction.proofs.Linear.{At, at, at-le, at-lt, at-eq, le-at, lt-at, add-at, sub-at, abs-at, over, trans}
+use Rattle.fraction.proofs.Linear.{at-le, at-lt, at-eq, le-at, lt-at, add-at, sub-at, abs-at, over, trans}
 use Rattle.fraction.proofs.Order.{of-eq, sym≈, trans≈, mul-mono, div-mul, le-div}
 use Rattle.fraction.proofs.Near.{near-sym, near-of-within, within-of-near, within-of-abs, abs-of-within, within-near, within-add, within-mul, within-same}
 use Rattle.fraction.proofs.Ring.{rep, reps, ring, cong-add, cong-sub}

@@ -1,15 +1,13 @@
 -- Relative errors: `Rel x X r t` is |x - X| ≤ r * |X| + t. Through one value after another, products, sums of one sign, and reciprocals. Assumes nothing.
-use mathlib.Core.Path.{_≡_, refl}
-use mathlib.Core.List.{List, [], _∷_}
-use Prim.Native.Nat.{ℕ, zero, suc}
+use mathlib.Core.Path.{refl}
+use mathlib.Core.List.{[], _∷_}
 use native.Mathlib.Omega.{arith}
-use Rattle.fraction.specs.Whole.{natʷ, _≈ʷ_}
-use Rattle.fraction.specs.Fraction.{Fraction, _≤ᶠ_, _<ᶠ_, _≈ᶠ_, natᶠ, _+ᶠ_, _-ᶠ_, _*ᶠ_, absᶠ, invᶠ, Near, Within}
-use Rattle.fraction.proofs.Linear.{At, at, at-le, at-eq, le-at, eq-at, add-at, sub-at, abs-at, over, trans}
+use Rattle.fraction.specs.Fraction.{Fraction, _≤ᶠ_, _≈ᶠ_, natᶠ, _+ᶠ_, _-ᶠ_, _*ᶠ_, absᶠ, invᶠ, Near, Within}
+use Rattle.fraction.proofs.Linear.{at-le, le-at, eq-at, add-at, sub-at, abs-at, over, trans}
 use Rattle.fraction.proofs.Order.{refl≤, of-eq, sym≈, trans≈, add-mono, mul-comm, mul-assoc, mul-mono, mul-mono-right, mul-cong, mul-one, mul-nonneg, inv-mul}
 use Rattle.fraction.proofs.Near.{near-add, near-mul, near-trans, near-weaken, near-sym, near-of-within, within-of-near, within-mul, abs-of-within, within-near, within-weaken, within-same}
 use Rattle.fraction.proofs.Ring.{rep, reps, ring, cong-sub, cong-mul}
-use Rattle.fraction.proofs.Abs.{within-abs, abs-nonneg, abs-mul, abs-cong, abs-self}
+use Rattle.fraction.proofs.Abs.{within-abs, abs-nonneg, abs-mul, abs-cong}
 
 pub record Rel (x X r t : Fraction) : Type 0 where
   pub near : Near x X (r *ᶠ absᶠ X +ᶠ t)

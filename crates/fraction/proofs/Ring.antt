@@ -1,16 +1,16 @@
 -- POLYNOMIAL IDENTITIES OVER FRACTIONS, BY COMPUTATION. A polynomial in x₀, x₁, .. is a constant, or p + x₀ * q with p in x₁, .. alone. `ev` gives its value at a list of fractions.
 -- `Rep ρ x` is a polynomial with the value x at ρ; `search rep` finds it for a sum, difference, product, negation or whole number, from those of its parts.
 -- `ring ρ (search ..) (search ..) tt` proves x ≈ᶠ y where the two polynomials come to the same: `quartic`, below, shows the form. Assumes nothing.
-use mathlib.Core.Path.{_≡_, refl, sym, ap}
+use mathlib.Core.Path.{refl}
 use mathlib.Core.List.{List, [], _∷_}
 use mathlib.Core.Bool.{Bool, true, false, _&&_}
-use Prim.Native.Nat.{ℕ, zero, suc, _+_, _*_, _≤_, _<_}
+use Prim.Native.Nat.{ℕ, zero, suc, _+_, _*_, _≤_}
 use native.Mathlib.Nat.{zero-lt-suc}
 use native.Mathlib.Omega.{arith}
 use lib.Dec.{T, eqb, eqb→eq}
-use Rattle.fraction.specs.Whole.{Whole, _+ʷ_, _-ʷ_, _*ʷ_, _×ℕ_, negʷ, natʷ, _≤ʷ_, _≈ʷ_}
+use Rattle.fraction.specs.Whole.{Whole, _+ʷ_, _*ʷ_, negʷ, natʷ}
 use Rattle.fraction.specs.Fraction.{Fraction, _≤ᶠ_, _≈ᶠ_, natᶠ, wholeᶠ, _+ᶠ_, _-ᶠ_, _*ᶠ_, negᶠ}
-use Rattle.fraction.proofs.Linear.{At, at, at-le, at-eq, le-at, eq-at, add-at, sub-at, neg-at, over, self}
+use Rattle.fraction.proofs.Linear.{at-le, at-eq, le-at, eq-at, add-at, sub-at, neg-at, over, self}
 use Rattle.fraction.proofs.Order.{sym≈, trans≈, mul-comm, mul-assoc, mul-left-comm, mul-add, mul-cong, mul-one, add-mul, zero-mul, square-nonneg}
 
 pub data Poly : Type 0 where

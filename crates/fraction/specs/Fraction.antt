@@ -1,9 +1,8 @@
 -- Exact fractions num / den of whole numbers, of any size, den above 0 (document 01, 'Exact winding': 'a fraction of two whole numbers'). Nothing is reduced: 1 / 2 and
 -- 2 / 4 are two ways to write one number, and `≈ᶠ` says that two are the same. Order and equality are by cross multiplication. Definitions only.
-use mathlib.Core.Path.{_≡_}
 use Prim.Native.Nat.{ℕ, _+_, _*_, _^_, _<_, max}
 use native.Mathlib.Nat.{mul-pos, zero-lt-suc, le-max-left}
-use mathlib.Core.Bool.{Bool, true, false, cond}
+use mathlib.Core.Bool.{Bool, cond}
 use lib.Dec.{leb, ltb, eqb}
 use lib.Pow.{pow-pos}
 use Rattle.fraction.specs.Whole.{Whole, _+ʷ_, _-ʷ_, _*ʷ_, _×ℕ_, negʷ, natʷ, sizeʷ, _≤ʷ_, _<ʷ_, _≈ʷ_}

@@ -11,6 +11,7 @@ pub struct Position {
 }
 
 // A 2 by 3 matrix, used for linear transformations of the plane.
+#[repr(C)]
 pub struct Transform2D {
     pub a: f32,
     pub b: f32,

@@ -1,12 +1,12 @@
 -- The groups of a list, one after another. Assumes nothing.
 use mathlib.Core.Path.{_≡_, refl, sym, ap, _∙_, subst}
 use mathlib.Core.List.{List, [], _∷_}
-use Prim.Native.Nat.{ℕ, zero, suc, _+_, _-_, _*_, _≤_, _<_}
+use Prim.Native.Nat.{ℕ, _+_, _-_, _≤_, _<_}
 use native.Mathlib.Omega.{arith}
 use lib.IntN.{ℤ}
 use lib.ListN.{length, drop, replicate}
 use lib.Ieee.{Float}
-use Rattle.words.specs.Words.{Group, pointsOf, pointsIn, readGroup, readWords, readOr, groupsOf}
+use Rattle.words.specs.Words.{Group, pointsIn, readGroup, readWords, readOr, groupsOf}
 use Rattle.words.specs.Scan.{Fine, endOf, noGroup, groupPoints}
 use Rattle.words.proofs.Places.{fine-read, Left, left-start, left-end, NextGroup, next-group}
 use Rattle.coverage.specs.declared.Size.{Size}

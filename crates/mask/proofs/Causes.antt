@@ -11,18 +11,12 @@ use lib.ListN.{length}
 use borrow.Author.Tests.{ltb-true, ltb-false, lt-ltb, le-ltb}
 use Rattle.fault.specs.declared.Fault.{Fault}
 use Rattle.fault.specs.declared.Fault.the-variants.{MaskTooLarge, BufferTooShort, ListEndsEarly, CountOutOfRange, CoordinateOutOfRange}
-use Rattle.words.specs.Words.{Point, Group, Read, ok, fault, andThen, beyond, readCount, readCoordinate, readPoint, readPoints, readContour, readContours, readGroup, readGroups, readWords, pointsOf}
+use Rattle.words.specs.Words.{Group, Read, ok, fault, andThen, beyond, readCount, readCoordinate, readPoint, readPoints, readContour, readContours, readGroup, readGroups, readWords, pointsOf}
 use Rattle.coverage.specs.declared.Size.{Size}
-use Rattle.mask.specs.Calls.{cellsOf, tooLarge, floatsNeeded, countersNeeded, Lent, listAnswer, drawAnswer}
-use Rattle.mask.specs.Laws.{TooLarge, SizeAllowed, ScratchShort, FirstCause, RefusedExactlyWhen, ListFaults}
-use Rattle.mask.specs.declared.Outcome.{Outcome}
+use Rattle.mask.specs.Calls.{cellsOf, floatsNeeded, countersNeeded, Lent, listAnswer, drawAnswer}
+use Rattle.mask.specs.Laws.{SizeAllowed, FirstCause, RefusedExactlyWhen, ListFaults}
 use Rattle.mask.specs.declared.Outcome.the-variants.{Done, Refused}
-
-same-fault : {f g : Fault} → Refused g ≡ Refused f → f ≡ g
-same-fault e = cc
-
-not-done : {f : Fault} → Done ≡ Refused f → ⊥
-not-done e = let z : _≡_ {A = ℕ} 0 1 = cc in omega arith
+use Rattle.mask.proofs.Answers.{same-fault, not-done, large, allowed}
 
 module _ (size : Size) (words : List ℤ) (lent : Lent) (f : Fault) where
   scratch-only : SizeAllowed size → cellsOf size ≤ lent .mask → (r : Read (List Group)) → readWords words ≡ r → listAnswer size lent r ≡ Refused f → FirstCause size words lent f
@@ -44,17 +38,6 @@ module _ (size : Size) (words : List ℤ) (lent : Lent) (f : Fault) where
       go false false true h k l e = inr (inl ((ltb-false 4096 (size .width) h, ltb-false 4096 (size .height) k), ltb-true (lent .mask) (cellsOf size) l, same-fault e))
       go false false false h k l e = scratch-only (ltb-false 4096 (size .width) h, ltb-false 4096 (size .height) k) (ltb-false (lent .mask) (cellsOf size) l) (readWords words) refl e
 
-  large : TooLarge size → tooLarge size ≡ true
-  large (inl h) = rw (lt-ltb 4096 (size .width) h) refl
-  large (inr h) = go (ltb 4096 (size .width)) (lt-ltb 4096 (size .height) h)
-    where
-      go : (a : Bool) → ltb 4096 (size .height) ≡ true → (a || ltb 4096 (size .height)) ≡ true
-      go true e = refl
-      go false e = e
-
-  allowed : SizeAllowed size → tooLarge size ≡ false
-  allowed s = rw (le-ltb 4096 (size .width) (s .0), le-ltb 4096 (size .height) (s .1)) refl
-
   short : (a b : ℕ) (c d : ℕ) → (a < b) ⊎ (c < d) → (ltb a b || ltb c d) ≡ true
   short a b c d (inl h) = rw (lt-ltb a b h) refl
   short a b c d (inr h) = go (ltb a b) (lt-ltb c d h)
@@ -64,11 +47,11 @@ module _ (size : Size) (words : List ℤ) (lent : Lent) (f : Fault) where
       go false e = e
 
   refused-always : FirstCause size words lent f → drawAnswer size words lent ≡ Refused f
-  refused-always (inl c) = ap (λ (b : Bool). cond b (Refused MaskTooLarge) (cond (ltb (lent .mask) (cellsOf size)) (Refused BufferTooShort) (listAnswer size lent (readWords words)))) (large (c .0)) ∙ ap Refused (sym (c .1))
-  refused-always (inr (inl c)) = rw (allowed (c .0), lt-ltb (lent .mask) (cellsOf size) (c .1)) (ap Refused (sym (c .2)))
-  refused-always (inr (inr (inl c))) = rw (allowed (c .0), le-ltb (lent .mask) (cellsOf size) (c .1), c .2) refl
+  refused-always (inl c) = ap (λ (b : Bool). cond b (Refused MaskTooLarge) (cond (ltb (lent .mask) (cellsOf size)) (Refused BufferTooShort) (listAnswer size lent (readWords words)))) (large size (c .0)) ∙ ap Refused (sym (c .1))
+  refused-always (inr (inl c)) = rw (allowed size (c .0), lt-ltb (lent .mask) (cellsOf size) (c .1)) (ap Refused (sym (c .2)))
+  refused-always (inr (inr (inl c))) = rw (allowed size (c .0), le-ltb (lent .mask) (cellsOf size) (c .1), c .2) refl
   refused-always (inr (inr (inr c))) =
-      rw (allowed (c .0), le-ltb (lent .mask) (cellsOf size) (c .1), c .2 .2, short (lent .floats) (floatsNeeded size (c .2 .0)) (lent .counters) (countersNeeded size) (c .2 .3)) (ap Refused (sym (c .3)))
+      rw (allowed size (c .0), le-ltb (lent .mask) (cellsOf size) (c .1), c .2 .2, short (lent .floats) (floatsNeeded size (c .2 .0)) (lent .counters) (countersNeeded size) (c .2 .3)) (ap Refused (sym (c .3)))
 
 pub refused-exactly-when : RefusedExactlyWhen
 refused-exactly-when = record { only = refused-only; always = refused-always }

@@ -1,23 +1,16 @@
 -- Lent buffers, cleared for a drawing. Assumes nothing.
-use mathlib.Core.Path.{_≡_, refl, sym, ap, _∙_, subst}
-use mathlib.Core.List.{List, [], _∷_, _++_}
-use Prim.Native.Nat.{ℕ, zero, suc, _+_, _-_, _≤_, _<_}
+use mathlib.Core.Path.{_≡_, sym, ap, _∙_}
+use mathlib.Core.List.{List, _++_}
+use Prim.Native.Nat.{ℕ, _+_, _-_, _≤_}
 use native.Mathlib.Omega.{arith}
-use lib.ListN.{length, take, drop, replicate, length-replicate, length-append, length-take, length-drop}
-use lib.Seq.{length-take-le}
+use lib.ListN.{length, take, drop, replicate, length-replicate, length-append, length-drop}
+use lib.Seq.{take-at, length-take-le}
 use lib.Ieee.{Float}
 use Rattle.float.specs.Ops.{f0}
 use Rattle.coverage.specs.declared.Size.{Size}
 use Rattle.coverage.specs.Resolving.{Room, Clean, countersFor}
+use Rattle.coverage.proofs.Rows.{take-alike}
 use Rattle.coverage.proofs.Groups.{room-same}
-
-pub take-front : {A : Type 0} (xs ys : List A) → take (length xs) (xs ++ ys) ≡ xs
-take-front [] ys = refl
-take-front (x ∷ xs) ys = ap (λ l. x ∷ l) (take-front xs ys)
-
-take-all-alike : {A : Type 0} (n k : ℕ) (a : A) → take n (replicate (n + k) a) ≡ replicate n a
-take-all-alike zero k a = refl
-take-all-alike (suc n) k a = let e : suc n + k ≡ suc (n + k) = omega arith in ap (λ (m : ℕ). take (suc n) (replicate m a)) e ∙ ap (λ l. a ∷ l) (take-all-alike n k a)
 
 module _ (mask : List ℕ) (fs : List Float) (cs : List ℕ) (size : Size) (points : ℕ) (room : Room mask fs cs size points) where
   pub prefix : size .width ≡ length (take (size .width) fs)
@@ -41,12 +34,12 @@ module _ (mask : List ℕ) (fs : List Float) (cs : List ℕ) (size : Size) (poin
 
     pub cleared-clean : Clean (zs ++ drop (size .width) fs) ds (size .width) (size .height)
     cleared-clean = record {
-      cells = ap (λ (n : ℕ). take n (zs ++ drop (size .width) fs)) (sym zs-long) ∙ take-front zs (drop (size .width) fs) ∙ z ∙ ap (λ (n : ℕ). replicate n f0) (sym prefix);
+      cells = take-at zs (drop (size .width) fs) (size .width) zs-long ∙ z ∙ ap (λ (n : ℕ). replicate n f0) (sym prefix);
       counts = ap (take (countersFor (size .width) (size .height))) d ∙ alike (countersFor (size .width) (size .height)) (room .heads);
     }
       where
         alike : (n : ℕ) → n ≤ length cs → take n (replicate (length cs) 0) ≡ replicate {A = ℕ} n 0
-        alike n h = let e : length cs ≡ n + (length cs - n) = omega arith in ap (λ (k : ℕ). take n (replicate k 0)) e ∙ take-all-alike n (length cs - n) 0
+        alike n h = let e : length cs ≡ n + (length cs - n) = omega arith in ap (λ (k : ℕ). take n (replicate k 0)) e ∙ take-alike n (length cs - n) 0
 
     pub cleared-zeros : mask₂ ≡ replicate (length mask₂) 0
     cleared-zeros = m ∙ ap (λ (n : ℕ). replicate n 0) (sym mask-long)

@@ -1,38 +1,29 @@
--- Drawings as a whole (specs/Laws.antt), and the starred ones computed (specs/Examples.antt). Assumes nothing.
+-- Drawings as a whole (specs/Laws.antt). Assumes nothing.
 use mathlib.Core.Path.{_≡_, refl, sym, ap, _∙_}
 use mathlib.Core.Bool.{Bool, true, false, cond, _||_}
-use mathlib.Core.List.{List, [], _∷_, _++_}
-use Prim.Native.Nat.{ℕ, _*_, _≤_, _<_}
-use native.Mathlib.Omega.{arith}
-use lib.Count.{trailingZeros}
+use mathlib.Core.List.{List, [], _++_}
+use Prim.Native.Nat.{ℕ, _≤_}
 use lib.Dec.{ltb}
 use lib.IntN.{ℤ}
-use lib.ListN.{length, take, drop}
-use lib.Ieee.{ofBits, ofFields, odd, units, round, size, span, climb, ofInt, add, sub, sum, mul, div, rem, neg, lt, le, eq, ne, isNan, toUnsigned}
-use lib.Signed.{ltZ}
+use lib.ListN.{take, drop}
+use lib.Seq.{take-at}
 use borrow.Author.Tests.{ltb-false, le-ltb}
 use Rattle.fault.specs.declared.Fault.{Fault}
 use Rattle.fault.specs.declared.Fault.the-variants.{MaskTooLarge, BufferTooShort}
-use Rattle.float.specs.Simple.{absOf, minOf, maxOf}
-use Rattle.words.specs.Words.{Group, pointsIn, Read, ok, fault, andThen, beyond, readCount, readCoordinate, readPoint, readPoints, readContour, readContours, readGroup, readGroups, readWords, pointsOf, groupsOf}
-use Rattle.words.specs.Writer.{wordsOf, Allowed}
+use Rattle.words.specs.Words.{Group, Read, ok, fault, readWords, groupsOf}
 use Rattle.words.proofs.RoundTrip.{reads-what-is-written}
-use Rattle.row.specs.Row.{addOf, evenlyOf, singleOf, betweenOf, acrossOf, ceilColumn, insideOf, clipOf, spanBy}
-use Rattle.row.specs.Sweep.{shareOf, coveredOf, bytesOf, addBytes}
-use Rattle.edge.specs.Edges.{slopedOf, edgeOf, walkOf, lastOf, contourOf, edgesOf, startingIn, reachingBelow, activeEdges, pieceOf, piecesOf}
 use Rattle.coverage.specs.declared.Size.{Size}
-use Rattle.coverage.specs.Drawing.{groupRow, addGroups, drawingRow, rowsFrom, drawingOf}
-use Rattle.mask.specs.Calls.{cellsOf, tooLarge, floatsNeeded, countersNeeded, Lent, listAnswer, drawAnswer, maskAfterDrawing}
+use Rattle.coverage.specs.Drawing.{drawingOf}
+use Rattle.mask.specs.Calls.{cellsOf, tooLarge, floatsNeeded, countersNeeded, Lent, listAnswer, drawAnswer}
 use Rattle.mask.specs.Laws.{CanDraw, DoneExactlyWhen, SameCells}
-use Rattle.mask.specs.Examples.{DrawnAsListed, TellsXFromY}
 use Rattle.mask.specs.declared.Outcome.{Outcome}
 use Rattle.mask.specs.declared.Outcome.the-variants.{Done, Refused}
 use Rattle.coverage.proofs.Places.{drawing-length}
-use Rattle.mask.proofs.Cleared.{take-front}
+use Rattle.mask.proofs.Answers.{not-done, size-small}
 
 -- ---- done exactly when
 passed : (b : Bool) (f : Fault) (r : Outcome) → cond b (Refused f) r ≡ Done → (b ≡ false) × (r ≡ Done)
-passed true f r e = let z : _≡_ {A = ℕ} 0 1 = cc in absurd (omega arith)
+passed true f r e = absurd (not-done (sym e))
 passed false f r e = (refl, e)
 
 neither : (a b : Bool) → (a || b) ≡ false → (a ≡ false) × (b ≡ false)
@@ -41,7 +32,7 @@ neither false b e = (refl, e)
 
 read-done : (s : Size) (words : List ℤ) (lent : Lent) (r : Read (List Group)) → readWords words ≡ r → listAnswer s lent r ≡ Done
     → (gs : List Group) × (rest : List ℤ) × (readWords words ≡ ok gs rest) × (floatsNeeded s gs ≤ lent .floats) × (countersNeeded s ≤ lent .counters)
-read-done s words lent (fault f) q e = let z : _≡_ {A = ℕ} 0 1 = cc in absurd (omega arith)
+read-done s words lent (fault f) q e = absurd (not-done (sym e))
 read-done s words lent (ok gs rest) q e =
     let p = passed (ltb (lent .floats) (floatsNeeded s gs) || ltb (lent .counters) (countersNeeded s)) BufferTooShort Done e in
     let n = neither (ltb (lent .floats) (floatsNeeded s gs)) (ltb (lent .counters) (countersNeeded s)) (p .0) in
@@ -50,13 +41,13 @@ read-done s words lent (ok gs rest) q e =
 only : (s : Size) (words : List ℤ) (lent : Lent) → drawAnswer s words lent ≡ Done → CanDraw s words lent
 only s words lent e =
     let a = passed (tooLarge s) MaskTooLarge (cond (ltb (lent .mask) (cellsOf s)) (Refused BufferTooShort) (listAnswer s lent (readWords words))) e in
-    let n = neither (ltb 4096 (s .width)) (ltb 4096 (s .height)) (a .0) in
+    let n = size-small s (a .0) in
     let b = passed (ltb (lent .mask) (cellsOf s)) BufferTooShort (listAnswer s lent (readWords words)) (a .1) in
     let r = read-done s words lent (readWords words) refl (b .1) in
     let w = reads-what-is-written .forth words (r .0) (r .1) (r .2) in
     record {
-      narrow = ltb-false 4096 (s .width) (n .0);
-      low = ltb-false 4096 (s .height) (n .1);
+      narrow = n .0;
+      low = n .1;
       cells = ltb-false (lent .mask) (cellsOf s) (b .0);
       groups = r .0;
       written = w .1;
@@ -86,19 +77,4 @@ same-cells s words mask other h k = front mask ∙ sym (front other)
   where
     front : (m : List ℕ) → take (cellsOf s) (drawingOf s (groupsOf words) ++ drop (cellsOf s) m) ≡ drawingOf s (groupsOf words)
     front m =
-        ap (λ (n : ℕ). take n (drawingOf s (groupsOf words) ++ drop (cellsOf s) m)) (sym (drawing-length s (groupsOf words))) ∙ take-front (drawingOf s (groupsOf words)) (drop (cellsOf s) m)
-
--- ---- document 01's starred drawings
-pub drawn-as-listed : DrawnAsListed
-unfolding rowsFrom addGroups groupRow piecesOf pieceOf activeEdges reachingBelow startingIn edgesOf contourOf lastOf walkOf edgeOf slopedOf
-    addBytes bytesOf coveredOf shareOf absOf minOf maxOf clipOf spanBy insideOf ceilColumn acrossOf betweenOf singleOf evenlyOf addOf
-    andThen beyond readCount readCoordinate readPoint readPoints readContour readContours readGroup readGroups readWords pointsOf pointsIn
-    ofBits ofFields odd units round size span climb ofInt add sub sum mul div rem neg lt le eq ne isNan toUnsigned trailingZeros
-drawn-as-listed = refl
-
-pub tells-x-from-y : TellsXFromY
-unfolding rowsFrom addGroups groupRow piecesOf pieceOf activeEdges reachingBelow startingIn edgesOf contourOf lastOf walkOf edgeOf slopedOf
-    addBytes bytesOf coveredOf shareOf absOf minOf maxOf clipOf spanBy insideOf ceilColumn acrossOf betweenOf singleOf evenlyOf addOf
-    andThen beyond readCount readCoordinate readPoint readPoints readContour readContours readGroup readGroups readWords pointsOf pointsIn
-    ofBits ofFields odd units round size span climb ofInt add sub sum mul div rem neg lt le eq ne isNan toUnsigned trailingZeros
-tells-x-from-y = refl
+        take-at (drawingOf s (groupsOf words)) (drop (cellsOf s) m) (cellsOf s) (drawing-length s (groupsOf words))

@@ -1,8 +1,9 @@
 -- OneGroup: one group of a list. AllGroups: one after another. Cleared: lent buffers, cleared. Answers: cause by cause.
--- Laws: drawings as a whole, and the starred ones. Causes: why a drawing is refused.
+-- Laws: drawings as a whole. Causes, LayCauses: why a drawing and a laying-on are refused.
 pub mod OneGroup
 pub mod AllGroups
 pub mod Cleared
 pub mod Answers
 pub mod Laws
 pub mod Causes
+pub mod LayCauses

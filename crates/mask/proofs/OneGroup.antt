@@ -1,20 +1,15 @@
 -- One group of a list: its edges stored, and its rows added. Assumes nothing.
 use mathlib.Core.Path.{_≡_, refl, sym, ap, _∙_, subst}
-use mathlib.Core.Bool.{Bool, true, false, not}
-use mathlib.Core.List.{List, [], _∷_, _++_}
-use Prim.Native.Nat.{ℕ, zero, suc, _+_, _*_, _≤_, _<_}
+use mathlib.Core.Bool.{Bool, not}
+use mathlib.Core.List.{List, []}
+use Prim.Native.Nat.{ℕ, _+_, _*_, _≤_}
 use native.Mathlib.Omega.{arith}
-use lib.IntN.{ℤ, pos, negsuc}
-use lib.Dec.{eqb}
+use lib.IntN.{ℤ, pos}
 use lib.ListN.{length, getD, drop}
 use lib.Ieee.{Float}
-use mir.Syntax.{w32}
-use mir.Val.{SFits, toZ, ofZ}
-use mir.ValLaws.{toZ-ofZ}
-use borrow.Author.Tests.{eqb-true, ne-eqb}
-use Rattle.words.specs.Words.{Point, Group, evenOdd, isZero, readContours, readGroup, readOr, pointsOf}
+use Rattle.words.specs.Words.{Point, Group, isZero, readContours, readGroup, readOr, pointsOf}
 use Rattle.words.specs.Scan.{Fine, endOf, noGroup, groupPoints}
-use Rattle.words.proofs.Places.{GroupThere, group-there}
+use Rattle.words.proofs.Places.{GroupThere}
 use Rattle.edge.specs.Edges.{edgesOf}
 use Rattle.edge.specs.Stored.{Pushed}
 use Rattle.coverage.proofs.Groups.{group-holds, still-clean, room-same}
@@ -58,16 +53,3 @@ module _ (mask : List ℕ) (fs : List Float) (cs : List ℕ) (size : Size) (poin
 
     pub stored : (rule : Bool) → rule ≡ not (isZero (getD ws at (pos 0))) → Stored gs size count rule
     stored rule e = record { group = readOr noGroup (readGroup 0 (drop at ws)); holds = holds rule e }
-
--- a word is 0 when its bits are
-pub zero-word : (z : ℤ) → SFits w32 z → eqb (ofZ w32 z) 0 ≡ isZero z
-zero-word z s = go (eqb (ofZ w32 z) 0) refl
-  where
-    go : (b : Bool) → eqb (ofZ w32 z) 0 ≡ b → b ≡ isZero z
-    go true e = ap isZero (sym (sym (toZ-ofZ w32 z s) ∙ ap (toZ w32) (eqb-true (ofZ w32 z) 0 e)))
-    go false e = other z e
-      where
-        other : (y : ℤ) → eqb (ofZ w32 y) 0 ≡ false → false ≡ isZero y
-        other (pos zero) f = sym f
-        other (pos (suc n)) f = sym (ne-eqb (suc n) 0 (λ e. omega arith))
-        other (negsuc n) f = refl

@@ -11,7 +11,8 @@ use Rattle.float.specs.Ops.{f0}
 use Rattle.words.specs.Words.{Group, pointsIn, Read, ok, fault, readWords, groupsOf}
 use Rattle.coverage.specs.declared.Size.{Size}
 use Rattle.coverage.specs.Drawing.{drawingOf}
-use Rattle.coverage.specs.Laying.{Offset, layingOf}
+use Rattle.laying.specs.declared.Offset.{Offset}
+use Rattle.laying.specs.Laying.{layingOf}
 use Rattle.mask.specs.declared.Outcome.{Outcome}
 use Rattle.mask.specs.declared.Outcome.the-variants.{Done, Refused}
 

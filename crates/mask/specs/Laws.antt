@@ -1,4 +1,4 @@
--- What document 01 says of drawings as a whole, stated of the definitions in Calls.antt. Proved in proofs/Laws.antt.
+-- What document 01 says of drawings and of laying on as a whole, stated of the definitions in Calls.antt. Proved in proofs/Laws.antt, Causes.antt and LayCauses.antt.
 use mathlib.Core.Path.{_≡_}
 use mathlib.Core.Logic.{_⊎_}
 use mathlib.Core.List.{List}
@@ -7,10 +7,10 @@ use lib.IntN.{ℤ}
 use lib.ListN.{length, take}
 use Rattle.fault.specs.declared.Fault.{Fault}
 use Rattle.fault.specs.declared.Fault.the-variants.{MaskTooLarge, BufferTooShort, ListEndsEarly, CountOutOfRange, CoordinateOutOfRange}
-use Rattle.words.specs.Words.{Group, Read, ok, fault, readWords}
+use Rattle.words.specs.Words.{Group, ok, fault, readWords}
 use Rattle.words.specs.Writer.{wordsOf, Allowed}
 use Rattle.coverage.specs.declared.Size.{Size}
-use Rattle.mask.specs.Calls.{cellsOf, floatsNeeded, countersNeeded, Lent, drawAnswer, maskAfterDrawing}
+use Rattle.mask.specs.Calls.{cellsOf, floatsNeeded, countersNeeded, Lent, drawAnswer, maskAfterDrawing, layAnswer}
 use Rattle.mask.specs.declared.Outcome.the-variants.{Done, Refused}
 
 -- what a drawing asks for: none of the causes 3 to 7 of document 01's table. Said without the reading: the list is the writing of allowed groups
@@ -62,3 +62,20 @@ ListFaults = (words : List ℤ) (f : Fault) → readWords words ≡ fault f → 
 abbrev pub SameCells : Type 0
 SameCells = (size : Size) (words : List ℤ) (mask other : List ℕ) → cellsOf size ≤ length mask → cellsOf size ≤ length other
     → take (cellsOf size) (maskAfterDrawing Done size words mask) ≡ take (cellsOf size) (maskAfterDrawing Done size words other)
+
+-- ---- laying on
+
+-- what a laying-on asks for: neither of the causes 3 and 4, of either mask
+abbrev pub CanLay : Size → Size → ℕ → ℕ → Type 0
+CanLay size otherSize mask other = SizeAllowed size × SizeAllowed otherSize × (cellsOf size ≤ mask) × (cellsOf otherSize ≤ other)
+
+-- why it is refused, in document 01's order: 'Laying on: 3, 4.'
+abbrev pub FirstLayCause : Size → Size → ℕ → ℕ → Fault → Type 0
+FirstLayCause size otherSize mask other f =
+    ((TooLarge size ⊎ TooLarge otherSize) × (f ≡ MaskTooLarge)) ⊎ (SizeAllowed size × SizeAllowed otherSize × ((mask < cellsOf size) ⊎ (other < cellsOf otherSize)) × (f ≡ BufferTooShort))
+
+pub record LaidExactlyWhen : Type 0 where
+  pub done-only : (size otherSize : Size) (mask other : ℕ) → layAnswer size otherSize mask other ≡ Done → CanLay size otherSize mask other
+  pub done-always : (size otherSize : Size) (mask other : ℕ) → CanLay size otherSize mask other → layAnswer size otherSize mask other ≡ Done
+  pub refused-only : (size otherSize : Size) (mask other : ℕ) (f : Fault) → layAnswer size otherSize mask other ≡ Refused f → FirstLayCause size otherSize mask other f
+  pub refused-always : (size otherSize : Size) (mask other : ℕ) (f : Fault) → FirstLayCause size otherSize mask other f → layAnswer size otherSize mask other ≡ Refused f

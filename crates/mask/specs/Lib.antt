@@ -1,4 +1,3 @@
--- Calls: the calls on masks, outright. Laws: what holds of drawings as a whole. Examples: document 01's starred drawings.
+-- Calls: the calls on masks, outright. Laws: what holds of them as a whole.
 pub mod Calls
 pub mod Laws
-pub mod Examples

@@ -1,6 +1,7 @@
 // The public calls on masks.
 use coverage::Size;
 use fault::Fault;
+use laying::Offset;
 use words::Counted;
 use words::Scan;
 ghost use mathlib.Core.Path.{_≡_};
@@ -12,7 +13,7 @@ ghost use Rattle.words.specs.Words.{readGroup, readWords, readOr, groupsOf, poi
 ghost use Rattle.words.specs.Scan.{groupPoints, Fine, endOf, noGroup};
 ghost use Rattle.coverage.specs.Drawing.{groupRow, drawingOf};
 ghost use Rattle.coverage.specs.Resolving.{Room, Clean, rowsAdded};
-ghost use Rattle.mask.specs.Calls.{cellsOf, listAnswer, drawAnswer, maskAfterDrawing, floatsAfterDrawing, countersAfterDrawing};
+ghost use Rattle.mask.specs.Calls.{cellsOf, tooLarge, listAnswer, drawAnswer, maskAfterDrawing, floatsAfterDrawing, countersAfterDrawing, layAnswer, maskAfterLaying};
 
 // The most cells that a mask may have across or down.
 pub const MOST_CELLS: usize = 4096;
@@ -21,6 +22,15 @@ pub const MOST_CELLS: usize = 4096;
 pub enum Outcome {
     Done,
     Refused(Fault),
+}
+
+fn is_too_large(size: Size) -> bool
+    ensures { λ r. ⌜ r ≡ tooLarge size ⌝ }
+{
+    if MOST_CELLS < size.width {
+        return true;
+    }
+    MOST_CELLS < size.height
 }
 
 // Adds the group whose words start at `at`. Returns where the next starts.
@@ -53,7 +63,7 @@ fn draw_group(
         size,
         points,
         stored.count,
-        words[at] != 0,
+        words::is_even_odd_at(words, at),
     );
     stored.at
 }
@@ -148,10 +158,7 @@ pub fn rasterize_into(
     ensures floats { λ r. ⌜ now (floats .exit) ≡ floatsAfterDrawing r (now (floats .entry)) ⌝ }
     ensures counters { λ r. ⌜ now (counters .exit) ≡ countersAfterDrawing r (now (counters .entry)) ⌝ }
 {
-    if MOST_CELLS < size.width {
-        return Outcome::Refused(Fault::MaskTooLarge);
-    }
-    if MOST_CELLS < size.height {
+    if is_too_large(size) {
         return Outcome::Refused(Fault::MaskTooLarge);
     }
     if mask.len() < size.width * size.height {
@@ -161,4 +168,33 @@ pub fn rasterize_into(
         Scan::Refused(f) => Outcome::Refused(f),
         Scan::At(_, points) => draw_in(mask, floats, counters, size, points, words),
     }
+}
+
+// Lays the other mask on a mask: multiplies it by the other where they overlap, and clears it
+// elsewhere. `offset` is where the mask's corner lies in the other.
+pub fn intersect(
+    mask: &mut [u8],
+    size: Size,
+    other: &[u8],
+    other_size: Size,
+    offset: Offset,
+) -> Outcome
+    ensures answer { λ r. ⌜ r ≡ layAnswer size «other_size» (length (now (mask .entry))) (length (now (other .entry))) ⌝ }
+    ensures cells { λ r. ⌜ now (mask .exit) ≡ maskAfterLaying r size «other_size» offset (now (mask .entry)) (now (other .entry)) ⌝ }
+{
+    if is_too_large(size) {
+        return Outcome::Refused(Fault::MaskTooLarge);
+    }
+    if is_too_large(other_size) {
+        return Outcome::Refused(Fault::MaskTooLarge);
+    }
+    let cells = size.width * size.height;
+    if mask.len() < cells {
+        return Outcome::Refused(Fault::BufferTooShort);
+    }
+    if other.len() < other_size.width * other_size.height {
+        return Outcome::Refused(Fault::BufferTooShort);
+    }
+    laying::lay(&mut mask[..cells], size, other, other_size, offset);
+    Outcome::Done
 }

@@ -1,36 +1,36 @@
 -- THE THEOREM about a list of calls: an induction over the list, with what the reckoner holds as the invariant. Assumes nothing.
 use mathlib.Core.Path.{_≡_, refl, sym, ap, ap₂, _∙_, subst, subst₂}
-use mathlib.Core.Bool.{Bool, true, false, cond, _&&_, _||_, true≢false}
+use mathlib.Core.Bool.{Bool, true, false, cond, _&&_}
 use mathlib.Core.List.{List, [], _∷_, _++_}
-use Prim.Native.Nat.{ℕ, zero, suc, _+_, _-_, _*_, _/_, _≤_, _<_}
+use Prim.Native.Nat.{ℕ, _+_, _-_, _*_, _≤_, _<_}
 use native.Mathlib.Nat.{not-suc-le-zero, mul-le-mul-right}
 use native.Mathlib.Omega.{arith}
 use lib.Dec.{ltb}
 use lib.IntN.{ℤ, pos, negsuc, _+ℤ_}
 use lib.ListN.{length, getD, drop, length-append, length-drop, List·getD-append}
-use borrow.Author.Tests.{ltb-true, ltb-false}
-use Rattle.fault.specs.declared.Fault.{Fault}
-use Rattle.fault.specs.declared.Fault.the-variants.{MaskTooLarge, BufferTooShort}
-use Rattle.fraction.specs.Fraction.{Fraction, _≤ᶠ_, natᶠ, _/2^_, _+ᶠ_, _*ᶠ_, Near}
+use borrow.Author.Tests.{ltb-true}
+use Rattle.fraction.specs.Fraction.{_≤ᶠ_, natᶠ, _*ᶠ_, Near}
 use Rattle.fraction.proofs.Linear.{lit}
 use Rattle.fraction.proofs.Order.{refl≤}
 use Rattle.words.specs.Words.{groupsOf}
 use Rattle.winding.proofs.Belief.{drawn-share-at-most-one, drawn-share-nonneg}
 use Rattle.coverage.specs.declared.Size.{Size}
 use Rattle.coverage.specs.Drawing.{drawingRow, drawingOf}
-use Rattle.coverage.specs.Laying.{Offset, laidByte, metAt, layingOf}
+use Rattle.laying.specs.declared.Offset.{Offset}
+use Rattle.laying.specs.Laying.{laidByte, metAt, layingOf}
+use Rattle.laying.proofs.Laid.{laying-length, laying-get}
 use Rattle.coverage.proofs.Places.{drawing-length, drawing-get}
 use Rattle.mask.specs.declared.Outcome.{Outcome}
 use Rattle.mask.specs.declared.Outcome.the-variants.{Done, Refused}
-use Rattle.mask.specs.Calls.{Lent, cellsOf, tooLarge, drawAnswer, maskAfterDrawing, layAnswer, maskAfterLaying}
-use Rattle.mask.specs.Laws.{CanDraw}
+use Rattle.mask.specs.Calls.{Lent, cellsOf, drawAnswer, maskAfterDrawing, layAnswer, maskAfterLaying}
 use Rattle.mask.proofs.Laws.{done-exactly-when}
+use Rattle.mask.proofs.LayCauses.{laid-exactly-when}
 use Rattle.bound.specs.Close.{byteAt}
 use Rattle.bound.proofs.Close.{drawn-bytes-are-close}
-use Rattle.reckoner.specs.Reckoner.{Cell, Held, Place, running, next, Two, of, put, nothingHeld, atFirst, drawnHeld, both, alone, meets, laidHeld, Call, draw, lay, answer, answers, step, reckoned, GivenSizes, Meant}
-use Rattle.reckoner.specs.Claim.{Buffers, HasLengths, Scratch, ScratchFor, Scratches, answered, left, allAnswered, allLeft, Claim, EveryList}
+use Rattle.reckoner.specs.Reckoner.{Cell, Held, Place, running, next, Two, of, put, atFirst, drawnHeld, both, alone, meets, laidHeld, Call, draw, lay, answer, answers, step, reckoned, GivenSizes, Meant}
+use Rattle.reckoner.specs.Claim.{Buffers, HasLengths, ScratchFor, Scratches, answered, left, allAnswered, allLeft, EveryList}
 use Rattle.reckoner.proofs.LayStep.{lay-near, lay-none, lay-byte, share-nonneg, share-most}
-use Rattle.reckoner.proofs.Laid.{laying-length, laying-get, drawn-small}
+use Rattle.reckoner.proofs.Small.{drawn-small}
 
 -- ---- what holds of a cell with the bytes of two runs, of a mask, and of both masks
 record CellHeld (a : Cell) (x y : ℕ) : Type 0 where
@@ -111,18 +111,8 @@ module _ (size : Size) (words : List ℤ) (floats counters : ℕ) where
       own mask column row c r = front-byte size (drawingOf size (groupsOf words)) (drop (cellsOf size) mask) column row (drawing-length size (groupsOf words)) c r ∙ drawing-get size (groupsOf words) row column r c
 
 -- ---- a laying-on
-never : {f : Fault} → Refused f ≡ Done → ⊥
-never e = let z : _≡_ {A = ℕ} 0 1 = cc in omega arith
-
 lay-room : (size otherSize : Size) (m n : ℕ) → layAnswer size otherSize m n ≡ Done → (cellsOf size ≤ m) × (cellsOf otherSize ≤ n)
-lay-room size otherSize m n = go (tooLarge size || tooLarge otherSize) (ltb m (cellsOf size)) (ltb n (cellsOf otherSize)) refl refl
-  where
-    go : (a b c : Bool) → ltb m (cellsOf size) ≡ b → ltb n (cellsOf otherSize) ≡ c → cond a (Refused MaskTooLarge) (cond (b || c) (Refused BufferTooShort) Done) ≡ Done
-        → (cellsOf size ≤ m) × (cellsOf otherSize ≤ n)
-    go true b c p q e = absurd (never e)
-    go false true c p q e = absurd (never e)
-    go false false true p q e = absurd (never e)
-    go false false false p q e = (ltb-false m (cellsOf size) p, ltb-false n (cellsOf otherSize) q)
+lay-room size otherSize m n e = let c = laid-exactly-when .done-only size otherSize m n e in (c .2, c .3)
 
 lay-length : (size otherSize : Size) (offset : Offset) (o : Outcome) (mask other : List ℕ) → layAnswer size otherSize (length mask) (length other) ≡ o
     → length (maskAfterLaying o size otherSize offset mask other) ≡ length mask

@@ -1,20 +1,16 @@
 -- Laying on, in one cell: the rounded product of two bytes against 255 times the product of two shares. Assumes nothing.
-use mathlib.Core.Path.{_≡_, refl, sym, ap}
-use mathlib.Core.List.{List, [], _∷_}
-use Prim.Native.Nat.{ℕ, zero, suc, _+_, _*_, _/_, _≤_, _<_}
+use mathlib.Core.List.{[], _∷_}
+use Prim.Native.Nat.{ℕ, _+_, _*_, _/_, _≤_}
 use native.Mathlib.Nat.{mul-le-mul}
 use native.Mathlib.Omega.{arith}
-use Rattle.fraction.specs.Whole.{Whole, _*ʷ_, natʷ, _≤ʷ_, _≈ʷ_}
-use Rattle.fraction.specs.Fraction.{negᶠ, Fraction, _≤ᶠ_, _≈ᶠ_, natᶠ, _/2^_, _+ᶠ_, _-ᶠ_, _*ᶠ_, Near, Within}
-use Rattle.fraction.proofs.Linear.{At, at, at-le, at-eq, le-at, eq-at, add-at, sub-at, scale-at, over, trans, lit}
-use Rattle.fraction.proofs.Order.{refl≤, of-eq, sym≈, trans≈, mul-mono, mul-nonneg, mul-comm, mul-cong, mul-one, zero-mul}
-use Rattle.fraction.proofs.Near.{near-mul, near-weaken}
-use Rattle.fraction.proofs.Ring.{Rep, rep, reps, ring}
+use Rattle.fraction.specs.Fraction.{negᶠ, Fraction, _≤ᶠ_, _≈ᶠ_, natᶠ, _/2^_, _+ᶠ_, _*ᶠ_, Near, Within}
+use Rattle.fraction.proofs.Linear.{at, at-le, at-eq, le-at, add-at, scale-at, over, trans}
+use Rattle.fraction.proofs.Order.{of-eq, mul-mono, mul-nonneg, mul-comm, mul-one}
+use Rattle.fraction.proofs.Near.{near-mul}
+use Rattle.fraction.proofs.Ring.{rep, reps, ring}
+use Rattle.bound.proofs.Share.{near-nonneg}
 
 -- an allowed difference is not below 0
-pub near-nonneg : {x y e : Fraction} → Near x y e → natᶠ 0 ≤ᶠ e
-near-nonneg {x} {y} {e} h = over (x ∷ y ∷ e ∷ natᶠ 0 ∷ []) (λ N n X Y E O. le-at N O E n (omega (arith, O .is, at-le N (search at) (search at) (h .lo), at-le N (search at) (search at) (h .hi))))
-
 -- (b * d + 127) / 255, rounded down, is off by 127 / 255
 down-hi : (b d : ℕ) → natᶠ 255 *ᶠ natᶠ ((b * d + 127) / 255) ≤ᶠ natᶠ b *ᶠ natᶠ d +ᶠ natᶠ 127
 unfolding _*ᶠ_ _+ᶠ_

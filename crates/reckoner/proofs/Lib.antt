@@ -1,4 +1,4 @@
--- LayStep: laying on in one cell. Laid: a laid mask, cell by cell. Chain: the theorem, `every-list`.
+-- LayStep: laying on in one cell. Small: a byte of a drawing is a byte. Chain: the theorem, `every-list`.
 pub mod LayStep
-pub mod Laid
+pub mod Small
 pub mod Chain

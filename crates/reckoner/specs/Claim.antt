@@ -9,7 +9,7 @@ use Rattle.fraction.specs.Fraction.{natᶠ, _*ᶠ_, Near}
 use Rattle.mask.specs.declared.Outcome.{Outcome}
 use Rattle.mask.specs.Calls.{drawAnswer, maskAfterDrawing, layAnswer, maskAfterLaying}
 use Rattle.bound.specs.Close.{byteAt}
-use Rattle.reckoner.specs.Reckoner.{Held, Place, running, next, Two, of, put, atFirst, Call, draw, lay, answers, reckoned, Meant}
+use Rattle.reckoner.specs.Reckoner.{Place, running, Two, of, put, atFirst, Call, draw, lay, answers, reckoned, Meant}
 
 -- ---- the engine's run
 

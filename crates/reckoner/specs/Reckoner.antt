@@ -10,7 +10,7 @@ use Rattle.fraction.specs.Fraction.{Fraction, natᶠ, _/2^_, _+ᶠ_, _*ᶠ_}
 use Rattle.words.specs.Words.{Group, groupsOf}
 use Rattle.winding.specs.Drawn.{drawnShare, allowedDifference}
 use Rattle.coverage.specs.declared.Size.{Size}
-use Rattle.coverage.specs.Laying.{Offset}
+use Rattle.laying.specs.declared.Offset.{Offset}
 use Rattle.mask.specs.declared.Outcome.{Outcome}
 use Rattle.mask.specs.declared.Outcome.the-variants.{Done, Refused}
 use Rattle.mask.specs.Calls.{drawAnswer, layAnswer}

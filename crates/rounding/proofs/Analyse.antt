@@ -2,12 +2,10 @@
 -- value: `err`, a closed fraction that computes. A leaf is a float with the fraction that it stands for, a bound of that fraction's size and a bound of the error.
 -- An operation's bound is worked out from its operands' (`auto`), or is one that the caller knows (`known b`) and proves (`Needs`). A quotient names a number that
 -- its divisor's size reaches (`over l`), which the caller proves too. `ok` tests that nothing overflows and that no error reaches a divisor. Assumes nothing.
-use mathlib.Core.List.{List, [], _∷_}
 use mathlib.Core.Bool.{Bool, true, false, _&&_}
-use Prim.Native.Nat.{ℕ, zero, suc, _^_}
-use lib.IntN.{pos}
+use Prim.Native.Nat.{_^_}
 use lib.Dec.{T}
-use lib.Ieee.{Float, fin, Format, emax, add, sub, mul, div, fits}
+use lib.Ieee.{Float, Format, emax, add, sub, mul, div, fits}
 use lib.Ieee.Fits.{add-fits, sub-fits, mul-fits, div-fits}
 use lib.Ieee.Scale.{finite}
 use Rattle.fraction.specs.Fraction.{Fraction, _≤ᶠ_, leᵇ, ltᵇ, eqᵇ, natᶠ, _+ᶠ_, _-ᶠ_, _*ᶠ_, _/ᶠ_, absᶠ, Near, Within}

@@ -1,8 +1,8 @@
 -- `round` by the fraction that it is worth: ± grid / 2 ^ low, where nothing overflows. A value of the format comes back as it is, and so bounds whatever rounds below or above it. Assumes nothing.
 use mathlib.Core.Path.{_≡_, refl, sym, ap, _∙_, subst}
-use mathlib.Core.Bool.{Bool, true, false, not, _&&_}
+use mathlib.Core.Bool.{Bool, true, false, _&&_}
 use Prim.Native.Nat.{ℕ, zero, suc, _+_, _-_, _*_, _%_, _^_, _≤_, _<_}
-use native.Mathlib.Nat.{le-trans, lt-of-not-le, not-le-of-lt, lt-of-mul-lt-mul-right, mul-lt-mul-of-pos-right, le-of-suc-le-suc, mul-le-mul-right, mul-le-mul-left}
+use native.Mathlib.Nat.{lt-of-not-le, not-le-of-lt, lt-of-mul-lt-mul-right, mul-lt-mul-of-pos-right, le-of-suc-le-suc, mul-le-mul-right, mul-le-mul-left}
 use native.Mathlib.Omega.{arith}
 use lib.IntN.{ℤ, pos, negsuc}
 use lib.Dec.{T, ltb, leb, eqb, ltb→lt, leb→le, lit≤}
@@ -12,8 +12,8 @@ use lib.Ieee.Fits.{round-is, down-pos, and-l, and-r}
 use lib.Ieee.Exact.{HasValue, units-val, round-exact}
 use lib.Ieee.Order.{drop, kept, round-mono}
 use lib.Ieee.Scale.{grid, overflow, finite}
-use Rattle.fraction.specs.Whole.{Whole, _×ℕ_, natʷ, _≤ʷ_, _≈ʷ_}
-use Rattle.fraction.specs.Fraction.{Fraction, _≤ᶠ_, _≈ᶠ_}
+use Rattle.fraction.specs.Whole.{_×ℕ_, _≈ʷ_}
+use Rattle.fraction.specs.Fraction.{_≈ᶠ_}
 use Rattle.fraction.proofs.Linear.{trans}
 use Rattle.fraction.proofs.Order.{of-eq, sym≈}
 use Rattle.rounding.specs.Value.{signed, signedᶠ, val}

@@ -1,16 +1,16 @@
 -- The floats' tests `lt`, `eq` and `le`, at finite values, are the fractions' order. Assumes nothing.
 use mathlib.Core.Path.{_≡_, sym, ap, subst₂}
 use mathlib.Core.Logic.{_⊎_, inl, inr}
-use mathlib.Core.Bool.{Bool, true, false, not, _&&_, _||_, Bool·beq}
-use Prim.Native.Nat.{ℕ, zero, suc, _+_, _*_, _≤_, _<_}
+use mathlib.Core.Bool.{Bool, true, false, not, _||_}
+use Prim.Native.Nat.{ℕ, _+_, _*_, _≤_, _<_}
 use native.Mathlib.Nat.{eq-or-lt-of-le, zero-mul}
 use native.Mathlib.Omega.{arith}
-use lib.Dec.{T, ltb, eqb, ltb→lt, lt→ltb, nltb→le, eqb→eq, not-T}
+use lib.Dec.{T, eqb, ltb→lt, lt→ltb, eqb→eq}
 use lib.Ieee.{Float, nan, inf, fin, up, down, below, level, lt, eq, le}
 use lib.Ieee.Fits.{and-i, and-l, and-r, eq→eqb}
 use lib.Ieee.Scale.{finite}
-use Rattle.fraction.specs.Whole.{Whole, _×ℕ_, natʷ, _≤ʷ_, _<ʷ_, _≈ʷ_}
-use Rattle.fraction.specs.Fraction.{Fraction, _≤ᶠ_, _<ᶠ_, _≈ᶠ_}
+use Rattle.fraction.specs.Whole.{Whole, _×ℕ_, _<ʷ_, _≈ʷ_}
+use Rattle.fraction.specs.Fraction.{_≤ᶠ_, _<ᶠ_, _≈ᶠ_}
 use Rattle.fraction.proofs.Order.{of-eq, of-lt, le-or-lt}
 use Rattle.rounding.specs.Value.{signed, val}
 

@@ -1,26 +1,25 @@
 -- Where nothing is rounded: sums and differences of multiples of 2 ^ -k whose result, in units of 2 ^ -k, is below 2 ^ prec. `At (2 ^ k) (val x)` says that x is such a multiple,
 -- and holds the number of units. Assumes nothing.
-use mathlib.Core.Path.{_≡_, refl, sym, ap, _∙_, subst}
+use mathlib.Core.Path.{_≡_, sym, ap, _∙_, subst}
 use mathlib.Core.Bool.{Bool, true, false}
-use mathlib.Core.List.{List, [], _∷_}
-use Prim.Native.Nat.{ℕ, zero, suc, _+_, _-_, _*_, _^_, _≤_, _<_}
-use native.Mathlib.Nat.{le-dest, le-trans, lt-of-lt-of-le, le-of-mul-le-mul-right, mul-pos}
+use Prim.Native.Nat.{ℕ, suc, _+_, _-_, _*_, _^_, _≤_, _<_}
+use native.Mathlib.Nat.{le-dest, lt-of-lt-of-le, le-of-mul-le-mul-right, mul-pos}
 use native.Mathlib.Omega.{arith}
 use lib.Dec.{T}
 use lib.Pow.{pow-add, pow-mono, shl-lt}
 use lib.Ieee.{Float, nan, inf, fin, Format, prec, emax, low, up, down, unlike, round, add, sub, mul}
 use lib.Ieee as Ieee
 use lib.Ieee.Fits.{down-pos, reach}
-use lib.Ieee.Exact.{HasValue, round-exact}
+use lib.Ieee.Exact.{round-exact}
 use lib.Ieee.Scale.{finite}
-use Rattle.fraction.specs.Whole.{Whole, _+ʷ_, _-ʷ_, _*ʷ_, _×ℕ_, negʷ, natʷ, sizeʷ, _≤ʷ_, _≈ʷ_}
-use Rattle.fraction.specs.Fraction.{Fraction, _≤ᶠ_, _≈ᶠ_, natᶠ, _+ᶠ_, _-ᶠ_, _*ᶠ_, negᶠ}
-use Rattle.fraction.proofs.Linear.{At, at-same, at-eq, eq-at, add-at, sub-at, neg-at, mul-at, same-is, over}
+use Rattle.fraction.specs.Whole.{Whole, _+ʷ_, _-ʷ_, _*ʷ_, _×ℕ_, sizeʷ, _≈ʷ_}
+use Rattle.fraction.specs.Fraction.{Fraction, _≈ᶠ_, _+ᶠ_, _-ᶠ_, _*ᶠ_}
+use Rattle.fraction.proofs.Linear.{At, at-same, add-at, neg-at, mul-at, same-is}
 use Rattle.fraction.proofs.Order.{sym≈, trans≈}
 use Rattle.rounding.specs.Rounding.{Is}
 use Rattle.rounding.specs.Value.{signed, signedᶠ, val}
 use Rattle.rounding.proofs.Base.{value-is}
-use Rattle.rounding.proofs.Ops.{SumIs, sum-is, spread, val-neg, finite-neg, minus-is, product}
+use Rattle.rounding.proofs.Ops.{sum-is, spread, val-neg, finite-neg, minus-is, product}
 
 pub is-same : {X Y : Fraction} {r : Float} → X ≈ᶠ Y → Is X r → Is Y r
 is-same q h = record { fine = h .fine; eq = trans≈ (h .eq) q }

@@ -1,11 +1,10 @@
 -- The laws of specs/Laws.antt. Assumes nothing.
-use mathlib.Core.Path.{_≡_}
 use Prim.Native.Nat.{ℕ, _^_}
 use lib.Ieee.{Float, Format}
-use Rattle.fraction.specs.Whole.{Whole, _×ℕ_, _≈ʷ_}
+use Rattle.fraction.specs.Whole.{Whole}
 use Rattle.fraction.proofs.Linear.{At}
 use Rattle.rounding.specs.Value.{val}
-use Rattle.rounding.specs.Laws.{Finite, OperationLaws, Units, ExactLaws, ComparisonLaws}
+use Rattle.rounding.specs.Laws.{OperationLaws, Units, ExactLaws, ComparisonLaws}
 use Rattle.rounding.proofs.Ops as ops
 use Rattle.rounding.proofs.Exactly as exactly
 use Rattle.rounding.proofs.Compare as compare

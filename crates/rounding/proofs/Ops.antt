@@ -1,23 +1,21 @@
 -- What `add`, `sub`, `mul` and `div` of finite floats are off by. Assumes nothing.
-use mathlib.Core.Path.{_≡_, refl, sym, ap, _∙_, subst}
+use mathlib.Core.Path.{_≡_, refl, sym, ap, subst}
 use mathlib.Core.Bool.{Bool, true, false, not, _&&_, cond}
-use Prim.Native.Nat.{ℕ, zero, suc, _+_, _-_, _*_, _%_, _^_, _≤_, _<_}
-use native.Mathlib.Nat.{le-dest, le-of-eq, le-of-lt, le-of-mul-le-mul-right, not-le-of-lt, lt-of-not-le, le-of-suc-le-suc, mul-pos, zero-lt-suc, add-sub-of-le, mul-le-mul-right}
+use Prim.Native.Nat.{ℕ, zero, suc, _+_, _-_, _*_, _^_, _≤_, _<_}
+use native.Mathlib.Nat.{le-dest, le-of-lt, le-of-mul-le-mul-right, mul-pos, zero-lt-suc, add-sub-of-le}
 use native.Mathlib.Omega.{arith}
-use lib.IntN.{ℤ, pos, negsuc}
-use lib.Dec.{eqb·suc-zero, T, ltb, leb, eqb, ltb→lt, nltb→le, leb→le}
-use lib.Pow.{pow-add, pow-pos, pow-lt}
-use lib.Ieee.{Float, nan, inf, fin, Format, prec, emax, low, unlike, up, down, round, sum, add, sub, mul, div, fits}
+use lib.Dec.{eqb·suc-zero, T, ltb, ltb→lt, nltb→le}
+use lib.Ieee.{Float, nan, inf, fin, Format, emax, low, unlike, up, down, round, sum, add, sub, mul, div, fits}
 use lib.Ieee as Ieee
-use lib.Ieee.Fits.{up-pos, down-pos, and-l, and-r, neg-fits}
+use lib.Ieee.Fits.{up-pos, down-pos, neg-fits}
 use lib.Ieee.Scale.{finite}
-use Rattle.fraction.specs.Whole.{Whole, _+ʷ_, _-ʷ_, _*ʷ_, _×ℕ_, negʷ, natʷ, _≤ʷ_, _≈ʷ_}
-use Rattle.fraction.specs.Fraction.{Fraction, _≤ᶠ_, _≈ᶠ_, natᶠ, _+ᶠ_, _-ᶠ_, _*ᶠ_, negᶠ, Near, Within}
-use Rattle.fraction.proofs.Linear.{At, at, at-le, at-eq, le-at, eq-at, add-at, sub-at, neg-at, self, over}
-use mathlib.Core.List.{List, [], _∷_}
+use Rattle.fraction.specs.Whole.{_+ʷ_, _×ℕ_, _≈ʷ_}
+use Rattle.fraction.specs.Fraction.{Fraction, _≈ᶠ_, natᶠ, _+ᶠ_, _-ᶠ_, _*ᶠ_, negᶠ, Within}
+use Rattle.fraction.proofs.Linear.{At, at-eq, eq-at, add-at, sub-at, neg-at, self, over}
+use mathlib.Core.List.{[], _∷_}
 use Rattle.fraction.proofs.Order.{sym≈, trans≈}
 use Rattle.fraction.proofs.Near.{within-same}
-use Rattle.rounding.specs.Value.{signed, signedᶠ, val, roundoff, tiny}
+use Rattle.rounding.specs.Value.{signed, signedᶠ, val, tiny}
 use Rattle.rounding.proofs.Base.{in-units}
 use Rattle.rounding.specs.Rounding.{Rounds}
 use Rattle.rounding.proofs.Round.{round-rounds, round-rounds-units, rounds-same}

@@ -1,18 +1,16 @@
 -- Relative errors of floats: `Approx f x X r t` says that x, a value of the format, stands for X with |x - X| ≤ r * |X| + t. A rounding makes r into `once f r`, a
 -- product adds the two and their product, a quotient takes the divisor's through its reciprocal. The sizes that the caller hands over (b, c) only keep results from
 -- overflowing and weigh the terms in `tiny`, so they may be crude: X may be as large as 2 ^ 24 beside an r that is a few units of the last place. Assumes nothing.
-use mathlib.Core.Path.{_≡_, refl}
-use mathlib.Core.List.{List, [], _∷_}
-use Prim.Native.Nat.{ℕ, _^_}
+use mathlib.Core.List.{[], _∷_}
+use Prim.Native.Nat.{_^_}
 use native.Mathlib.Omega.{arith}
 use lib.Dec.{T}
-use lib.Ieee.{Float, Format, emax, add, sub, mul, div, fits}
+use lib.Ieee.{Float, Format, emax, add, mul, div, fits}
 use lib.Ieee.Fits.{add-fits, mul-fits, div-fits}
 use lib.Ieee.Scale.{finite}
-use Rattle.fraction.specs.Whole.{natʷ, _≈ʷ_}
-use Rattle.fraction.specs.Fraction.{Fraction, _≤ᶠ_, _≈ᶠ_, natᶠ, _/2^_, _+ᶠ_, _-ᶠ_, _*ᶠ_, invᶠ, absᶠ, Near, Within}
-use Rattle.fraction.proofs.Linear.{At, at, at-le, at-eq, eq-at, le-at, add-at, abs-at, scale-at, over, lit, trans}
-use Rattle.fraction.proofs.Order.{refl≤, trans≈, mul-assoc, mul-cong, mul-one, mul-mono-right, inv-mul}
+use Rattle.fraction.specs.Fraction.{Fraction, _≤ᶠ_, _≈ᶠ_, natᶠ, _/2^_, _+ᶠ_, _-ᶠ_, _*ᶠ_, invᶠ, absᶠ, Within}
+use Rattle.fraction.proofs.Linear.{at-le, at-eq, eq-at, le-at, add-at, abs-at, scale-at, over}
+use Rattle.fraction.proofs.Order.{trans≈, mul-assoc, mul-cong, mul-one, mul-mono-right, inv-mul}
 use Rattle.fraction.proofs.Near.{abs-of-within, near-refl, near-sym, near-weaken, within-near, within-weaken, within-mul}
 use Rattle.fraction.proofs.Abs.{within-abs, abs-nonneg}
 use Rattle.fraction.proofs.Relative.{Rel, rel-near, rel-trans, rel-mul, rel-add, rel-inv}

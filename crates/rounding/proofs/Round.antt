@@ -1,21 +1,17 @@
 -- `round` in fractions: near its fraction, with its sign, finite where nothing overflows. Assumes nothing.
-use mathlib.Core.Path.{_≡_, refl, sym, ap, _∙_, subst}
-use mathlib.Core.List.{List, [], _∷_}
-use mathlib.Core.Logic.{_⊎_, inl, inr}
-use mathlib.Core.Bool.{Bool, true, false, not}
-use Prim.Native.Nat.{ℕ, zero, suc, _+_, _-_, _*_, _/_, _%_, _^_, _≤_, _<_}
-use native.Mathlib.Nat.{le-trans, le-of-eq, lt-of-not-le, le-of-mul-le-mul-right, lt-of-mul-lt-mul-right, mul-le-mul-right, mul-le-mul-left, mul-pos, mul-le-mul, zero-lt-suc}
+use mathlib.Core.Path.{_≡_, refl, ap}
+use mathlib.Core.List.{[], _∷_}
+use mathlib.Core.Bool.{Bool, true, false}
+use Prim.Native.Nat.{ℕ, _+_, _-_, _*_, _^_, _≤_, _<_}
+use native.Mathlib.Nat.{le-of-mul-le-mul-right, mul-le-mul-right, mul-pos}
 use native.Mathlib.Omega.{arith}
-use lib.Dec.{T, lit≤}
-use lib.Pow.{pow-add, pow-pos}
-use lib.Ieee.{Float, nan, inf, fin, Format, binary32, binary64, prec, emax, low, hid, up, down, round, fits}
-use lib.Ieee.Fits.{round-is, down-pos}
-use lib.Ieee.Exact.{HasValue, units-val, round-exact}
-use lib.Ieee.Order.{drop, kept}
-use lib.Ieee.Scale.{grid, overflow, finite}
-use Rattle.fraction.specs.Whole.{Whole, _+ʷ_, _-ʷ_, _*ʷ_, _×ℕ_, negʷ, natʷ, _≤ʷ_, _≈ʷ_}
-use Rattle.fraction.specs.Fraction.{Fraction, _≤ᶠ_, _≈ᶠ_, natᶠ, _+ᶠ_, _-ᶠ_, _*ᶠ_, negᶠ, absᶠ, Near, Within}
-use Rattle.fraction.proofs.Linear.{At, at, at-le, at-eq, le-at, eq-at, add-at, neg-at, over, trans}
+use lib.Dec.{T}
+use lib.Pow.{pow-pos}
+use lib.Ieee.{Float, nan, inf, fin, Format, emax, low, hid, up, down, round, fits}
+use lib.Ieee.Scale.{grid, finite}
+use Rattle.fraction.specs.Whole.{Whole, _+ʷ_, _×ℕ_, natʷ, _≤ʷ_, _≈ʷ_}
+use Rattle.fraction.specs.Fraction.{Fraction, _≤ᶠ_, _≈ᶠ_, natᶠ, _+ᶠ_, _*ᶠ_, negᶠ, Near, Within}
+use Rattle.fraction.proofs.Linear.{At, at-le, at-eq, le-at, add-at, neg-at, over, trans}
 use Rattle.fraction.proofs.Order.{mul-mono, of-eq, sym≈, trans≈, antisym, refl≤, add-mono}
 use Rattle.fraction.proofs.Near.{near-weaken, near-same, near-sym, near-trans, within-near, within-same}
 use Rattle.rounding.specs.Value.{signed, signedᶠ, val, roundoff, tiny}

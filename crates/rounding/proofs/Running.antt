@@ -3,7 +3,6 @@ use mathlib.Core.List.{List, [], _∷_}
 use native.Mathlib.Omega.{arith}
 use lib.Ieee.{Float, Format, add}
 use lib.Ieee.Fits.{add-fits}
-use Rattle.fraction.specs.Whole.{natʷ, _≤ʷ_, _≈ʷ_}
 use Rattle.fraction.specs.Fraction.{Fraction, natᶠ, _+ᶠ_, _*ᶠ_, Near}
 use Rattle.fraction.proofs.Linear.{le-at, add-at, over}
 use Rattle.fraction.proofs.Order.{zero-mul, one-more, of-eq, sym≈}

@@ -1,22 +1,16 @@
 -- The analyses at work, each on an expression of the rasterizer. Assumes nothing.
-use mathlib.Core.Path.{_≡_, refl}
-use mathlib.Core.List.{List, [], _∷_}
-use Prim.Native.Nat.{ℕ, _^_}
-use native.Mathlib.Omega.{arith}
+use Prim.Native.Nat.{_^_}
 use lib.Dec.{T}
-use lib.Ieee.{Float, binary32, add, sub, mul, div, fits}
+use lib.Ieee.{Float, binary32, add, mul, div, fits}
 use lib.Ieee.Scale.{finite}
-use Rattle.fraction.specs.Whole.{natʷ, _≈ʷ_}
 use Rattle.fraction.specs.Fraction.{Fraction, _≤ᶠ_, _≈ᶠ_, natᶠ, _/2^_, _+ᶠ_, _-ᶠ_, _*ᶠ_, _/ᶠ_, invᶠ, absᶠ, Near, Within}
-use Rattle.fraction.proofs.Linear.{At, at, at-le, at-eq, le-at, eq-at, add-at, over, lit, trans}
-use Rattle.fraction.proofs.Order.{of-eq}
+use Rattle.fraction.proofs.Linear.{lit}
 use Rattle.fraction.proofs.Near.{near-add, near-refl, near-weaken, within-near, within-weaken}
 use Rattle.rounding.specs.Value.{val}
-use Rattle.rounding.specs.Rounding.{Rounds}
 use Rattle.rounding.proofs.Round.{step}
 use Rattle.rounding.proofs.Ops.{add-rounds}
-use Rattle.rounding.proofs.Analyse.{Known, Leaf, E, leaf, op, plus, minus, times, over as per, auto, known, given, analyse, err}
-use Rattle.rounding.proofs.Relative.{Approx, approx-self, Sizes, mul-approx, div-approx}
+use Rattle.rounding.proofs.Analyse.{E, leaf, op, plus, over as per, auto, given, analyse}
+use Rattle.rounding.proofs.Relative.{approx-self, mul-approx, div-approx}
 use Rattle.fraction.proofs.Relative.{rel-near}
 
 -- An analysis with a quotient: (a + b) / c for sizes up to 4,096 and a c of size 1/2 at least is off by less than 2 ^ -8

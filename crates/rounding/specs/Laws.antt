@@ -1,5 +1,4 @@
 -- What one rounding does, over the width: `proofs/Laws.antt` has an element of each record for every format. Statements only.
-use mathlib.Core.Bool.{Bool, not}
 use Prim.Native.Nat.{ℕ, _+_, _^_, _≤_, _<_}
 use lib.Dec.{T}
 use lib.Ieee.{Float, Format, prec, emax, low, add, sub, mul, div, lt, le, eq, fits}

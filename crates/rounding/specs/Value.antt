@@ -1,7 +1,7 @@
 -- What a float is worth as a fraction, and the two numbers that bound a rounding. IEEE 754: a finite float is (-1)^s * m * 2^e, and an operation's result is the
 -- value of the format that is nearest to the exact one. Definitions only.
 use mathlib.Core.Bool.{Bool, true, false}
-use Prim.Native.Nat.{ℕ, _+_, _-_, _*_, _^_, _<_}
+use Prim.Native.Nat.{ℕ, _-_, _*_, _^_, _<_}
 use native.Mathlib.Nat.{zero-lt-suc, mul-pos}
 use lib.Pow.{pow-pos}
 use lib.Ieee.{Float, nan, inf, fin, Format, prec, low, hid, up, down}

@@ -1,7 +1,7 @@
 -- Bits of a word: after an or with another word, and of a run of ones. Assumes nothing.
 use mathlib.Core.Path.{_≡_, sym, ap, _∙_}
 use Prim.Native.Nat.{ℕ, suc, _+_, _-_, _*_, _/_, _%_, _^_, _≤_, _<_, max}
-use native.Mathlib.Nat.{le-max-left, le-max-right, max-le, one-mul, div-self, pow-suc}
+use native.Mathlib.Nat.{le-max-left, le-max-right, max-le, div-self, pow-suc}
 use native.Mathlib.Omega.{arith}
 use lib.Bits.{bitOr, or-step, or-shr}
 use lib.Pow.{pow-pos, shl-exact, shl-shr, shr-shr, ones-lt, ones-split, high}
@@ -22,9 +22,6 @@ pub or-clear : (a b k : ℕ) → bitOf (bitOr a b) k ≡ 0 → (bitOf a k ≡ 0)
 or-clear a b k h = or-even (a / 2 ^ k) (b / 2 ^ k) (rw or-shr at h)
 
 -- ---- a bit alone, as the code shifts it there
-
-pub one-bit : (k : ℕ) → k < 64 → 1 * 2 ^ k % 2 ^ 64 ≡ 2 ^ k
-one-bit k h = shl-exact 1 k 64 (omega arith) (omega arith) ∙ one-mul (2 ^ k)
 
 pub own-bit : (k : ℕ) → bitOf (2 ^ k) k ≡ 0 → ⊥
 own-bit k h = let e = div-self (pow-pos k) in let z : 1 % 2 ≡ 0 = rw e at h in omega arith

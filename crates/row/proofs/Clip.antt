@@ -60,7 +60,7 @@ out w x = cond (lt x f0 || lt (ofWhole w) x) 1 0
 unfoldable pub outside : ℕ → Float → Float → ℕ
 outside w xa xb = out w xa + out w xb
 
-or-true : (b : Bool) → (b || true) ≡ true
+pub or-true : (b : Bool) → (b || true) ≡ true
 or-true true = refl
 or-true false = refl
 

@@ -9,10 +9,11 @@ use lib.Bits.{bitOr}
 use lib.ListN.{length, getD, set, length-set}
 use lib.Seq.{getD-set-same, getD-set-other}
 use lib.Ieee.{nan}
+use Rattle.float.proofs.Shift.{one-shl}
 use Rattle.float.specs.Ops.{f0}
 use Rattle.row.specs.Row.{Cells}
 use Rattle.row.specs.Marks.{bitOf, Clear, Summed, Ready, Marked}
-use Rattle.row.proofs.Bits.{or-clear, one-bit, own-bit, onesAt, ones-set}
+use Rattle.row.proofs.Bits.{or-clear, own-bit, onesAt, ones-set}
 
 -- ---- one word
 
@@ -59,7 +60,7 @@ module _ (before : List ℕ) (cell n : ℕ) (some : 0 < n) (one : cell % 64 + n 
   summed : Summed before → Summed after
   summed s w h z =
       let k = or-clear (getD before 0 0) (1 * 2 ^ word % 2 ^ 64) w (ap (λ (x : ℕ). bitOf x w) (sym at-front) ∙ z) in
-      let d : w ≢ word = λ e. own-bit w (ap (λ (x : ℕ). bitOf x w) (sym (one-bit w h) ∙ ap (λ (x : ℕ). 1 * 2 ^ x % 2 ^ 64) e) ∙ k .1) in
+      let d : w ≢ word = λ e. own-bit w (ap (λ (x : ℕ). bitOf x w) (sym (one-shl w h) ∙ ap (λ (x : ℕ). 1 * 2 ^ x % 2 ^ 64) e) ∙ k .1) in
       at-other w d ∙ s w h (k .0)
 
   pub marked-word : Marked before after cell (cell + n)

@@ -1,5 +1,5 @@
 -- A row's cells summed to windings, and folded to bytes: `covered` and the second half of `Coverage::resolve`. Definitions only.
-use Prim.Native.Nat.{ℕ, zero, suc, _+_, min}
+use Prim.Native.Nat.{ℕ, _+_, min}
 use mathlib.Core.Bool.{Bool, cond}
 use mathlib.Core.List.{List, [], _∷_}
 use lib.Ieee.{Float, binary32, ofBits, lt, rem}

@@ -15,6 +15,7 @@ use geometry::Position;
 use geometry::Transform2D;
 
 // A box with elliptical corners: zero radii make a rectangle, radii equal to the extent an ellipse.
+#[repr(C)]
 pub struct RoundedBox {
     // maps the box, centred on the origin with its sides along the axes, to where its outline lies
     pub frame: Transform2D,
@@ -158,10 +159,7 @@ impl Check {
     pub fn in_range(x: f32) -> bool
         ensures { λ r. ⌜ r ≡ inRangeOf x ⌝ }
     {
-        if float::is_finite(x) {
-            return float::abs(x) <= Self::LARGEST_NUMBER;
-        }
-        false
+        float::abs(x) <= Self::LARGEST_NUMBER
     }
 
     fn both_in_range(x: f32, y: f32) -> bool

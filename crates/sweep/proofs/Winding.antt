@@ -3,7 +3,7 @@ use mathlib.Core.Path.{_≡_, refl, sym, ap, ap₂, _∙_, subst}
 use mathlib.Core.Logic.{_⊎_, inl, inr}
 use mathlib.Core.Bool.{Bool, true, false, cond, _&&_, Bool·beq, false≢true}
 use Prim.Native.Nat.{ℕ, zero, suc, _+_, _-_, _*_, _/_, _%_, _^_, _≤_, _<_, compare, Ordering}
-use native.Mathlib.Nat.{mul-one, one-mul, zero-mul, mul-comm, mul-assoc, mul-left-comm, mul-pos, zero-lt-suc, pow-suc, pow-succ', eq-of-mul-eq-mul-right, lt-of-mul-lt-mul-right, mul-lt-mul-of-pos-right, mul-le-mul-left, mul-le-mul-right, le-div-iff-mul-le, le-trans, add-mul}
+use native.Mathlib.Nat.{mul-one, zero-mul, mul-comm, mul-assoc, mul-left-comm, mul-pos, zero-lt-suc, pow-suc, pow-succ', eq-of-mul-eq-mul-right, lt-of-mul-lt-mul-right, mul-lt-mul-of-pos-right, mul-le-mul-left, mul-le-mul-right, le-div-iff-mul-le, le-trans, add-mul}
 use native.Mathlib.Omega.{arith}
 use lib.IntN.{ℤ, pos, negsuc}
 use lib.Dec.{T, eqb, ltb, leb, eqb→eq}
@@ -14,6 +14,7 @@ use lib.Ieee.Fits.{two, two-le-pos, up-pos, down-pos, and-l, round-is, round-fit
 use lib.Ieee.Nearest.{nearest-ge}
 use lib.Ieee.Order.{drop}
 use borrow.Author.Tests.{ltb-true, lt-ltb, le-ltb}
+use Rattle.float.proofs.Simple.{flat}
 use Rattle.float.specs.Ops.{f0, _⊕_}
 use Rattle.rounding.proofs.Base.{divides, fits-parts, own-rounding}
 use Rattle.rounding.proofs.Grid.{unit-small}
@@ -39,14 +40,6 @@ is-odd f s m e t =
     let b : Bool = ltb (suc m) (2 ^ prec f) in
     let c : Bool = leb (down e) (2 ^ low f) in
     eqb→eq (suc m % 2) 1 (and-l a b (and-l (a && b) c (and-l (a && b && c) (ltb (suc m * up e) (2 ^ suc (emax f) * down e)) t)))
-
-two-up : (p : ℕ) → 0 < p → 2 * p ≡ 1 → ⊥
-two-up p h e = omega arith
-
-flat : (e : ℤ) → up e * down e ≡ 1 → e ≡ pos 0
-flat (pos zero) h = refl
-flat (pos (suc k)) h = absurd (two-up (2 ^ k) (pow-pos k) (sym (pow-succ' 2 k) ∙ sym (mul-one (2 ^ suc k)) ∙ h))
-flat (negsuc k) h = absurd (two-up (2 ^ k) (pow-pos k) (sym (pow-succ' 2 k) ∙ sym (one-mul (2 ^ suc k)) ∙ h))
 
 zero-exp : (f : Format) (s : Bool) (e : ℤ) → T (fits f (fin s zero e)) → e ≡ pos 0
 unfolding fits

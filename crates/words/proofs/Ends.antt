@@ -1,16 +1,15 @@
 -- Where reading ends: what was read is followed by the rest of the list, and it had so many words at least. Assumes nothing.
-use mathlib.Core.Path.{_≡_, refl, sym, ap, _∙_, subst}
+use mathlib.Core.Path.{_≡_, refl, sym, ap, _∙_}
 use mathlib.Core.Bool.{Bool, true, false, cond}
 use mathlib.Core.List.{List, [], _∷_}
-use Prim.Native.Nat.{ℕ, zero, suc, _+_, _-_, _*_, _≤_, _<_}
-use native.Mathlib.Nat.{zero-add}
+use Prim.Native.Nat.{ℕ, zero, suc, _+_, _-_, _*_, _≤_}
 use native.Mathlib.Omega.{arith}
 use lib.Dec.{ltb}
 use lib.IntN.{ℤ, pos, negsuc}
 use lib.ListN.{length, drop, length-drop}
 use lib.Seq.{drop-drop}
 use Rattle.fault.specs.declared.Fault.{Fault}
-use Rattle.words.specs.Words.{Point, Group, Read, ok, fault, andThen, readCount, beyond, readCoordinate, readPoint, readPoints, readContour, readContours, readGroup}
+use Rattle.words.specs.Words.{Group, Read, ok, fault, andThen, readCount, beyond, readCoordinate, readPoint, readPoints, readContour, readContours, readGroup}
 
 -- what was read by two readings, one after the other
 pub record Both {A B : Type 0} (r : Read A) (more : A → List ℤ → Read B) (b : B) (last : List ℤ) : Type 0 where

@@ -1,21 +1,19 @@
 -- A list without a fault, read again by place: what stands at a place and what follows it. Assumes nothing.
 use mathlib.Core.Path.{_≡_, refl, sym, ap, _∙_, subst}
-use mathlib.Core.Bool.{Bool, true, false, cond}
 use mathlib.Core.List.{List, [], _∷_}
 use Prim.Native.Nat.{ℕ, zero, suc, _+_, _-_, _*_, _≤_, _<_}
 use native.Mathlib.Omega.{arith}
 use lib.Dec.{ltb}
-use lib.IntN.{ℤ, pos, negsuc}
+use lib.IntN.{ℤ, pos}
 use lib.ListN.{length, getD, drop, length-drop}
 use borrow.Author.Tests.{ltb-false, le-ltb}
 use Rattle.fault.specs.declared.Fault.the-variants.{CountOutOfRange}
 use Rattle.words.specs.Words.{Point, Group, pointsOf, pointsIn, Read, ok, fault, andThen, readCount, readPoint, readPoints, readContour, readContours, readGroup, readGroups, readWords, readOr}
-use Rattle.words.specs.Scan.{countedOf, checkedOf, groupPoints, Fine, endOf, noGroup}
-use Rattle.words.specs.declared.Counted.{Counted}
+use Rattle.words.specs.Scan.{countedOf, Fine, endOf, noGroup}
 use Rattle.words.specs.declared.Counted.the-variants as counted
 use Rattle.words.specs.declared.Checked.the-variants as checked
 use Rattle.words.proofs.Ends.{Both, then-ok, cond-ok, Ended, ended-group, placed}
-use Rattle.words.proofs.Steps.{at-end, at-word, pointAt, PointThere, point-there, point-read, points-length, contours-few, group-few, count-next}
+use Rattle.words.proofs.Steps.{at-end, at-word, pointAt, PointThere, point-there, point-read, points-length, group-few, count-next}
 
 -- what was read without a fault
 pub fine-read : {A : Type 0} (other : A) (r : Read A) → Fine r → (rest : List ℤ) × (r ≡ ok (readOr other r) rest)

@@ -1,18 +1,18 @@
 -- The reading of word lists is the inverse of their writing (specs/Writer.antt). Assumes nothing.
-use mathlib.Core.Path.{_≡_, refl, sym, ap, _∙_, subst}
-use mathlib.Core.Bool.{Bool, true, false, cond}
+use mathlib.Core.Path.{_≡_, refl, sym, ap, _∙_}
+use mathlib.Core.Bool.{false}
 use mathlib.Core.List.{List, [], _∷_, _++_, append-assoc, append-nil}
-use Prim.Native.Nat.{ℕ, zero, suc, _+_, _-_, _≤_, _<_}
+use Prim.Native.Nat.{ℕ, zero, suc, _+_, _-_, _≤_}
 use native.Mathlib.Omega.{arith}
 use lib.Dec.{ltb}
 use lib.IntN.{ℤ, pos, negsuc}
 use lib.ListN.{length, length-append}
 use borrow.Author.Tests.{le-ltb}
 use Rattle.fault.specs.declared.Fault.the-variants.{CountOutOfRange, CoordinateOutOfRange}
-use Rattle.words.specs.Words.{Point, Group, pointsOf, pointsIn, Read, ok, fault, andThen, readCount, beyond, readCoordinate, readPoint, readPoints, readContour, readContours, readGroup, readGroups, readWords}
+use Rattle.words.specs.Words.{Point, Group, pointsOf, pointsIn, ok, andThen, readCount, beyond, readCoordinate, readPoint, readPoints, readContour, readContours, readGroup, readGroups, readWords}
 use Rattle.words.specs.Writer.{pointsWords, contourWords, contoursWords, groupWords, wordsOf, NearPoints, NearContours, NearGroups, Allowed, ReadsWhatIsWritten}
 use Rattle.words.proofs.Ends.{then-ok, cond-ok}
-use Rattle.words.proofs.Steps.{points-length, contour-few, group-few}
+use Rattle.words.proofs.Steps.{points-length, group-few}
 use Rattle.words.specs.Scan.{groupPoints}
 
 -- ---- what was written is read, whatever stands behind it

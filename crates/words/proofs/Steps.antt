@@ -1,8 +1,8 @@
 -- What the code's answers say of what is read, and its loops turn by turn. Assumes nothing.
 use mathlib.Core.Path.{_≡_, refl, sym, ap, _∙_, subst}
-use mathlib.Core.Bool.{Bool, true, false, cond, true≢false, false≢true}
+use mathlib.Core.Bool.{Bool, true, false, true≢false}
 use mathlib.Core.List.{List, [], _∷_}
-use Prim.Native.Nat.{ℕ, zero, suc, _+_, _-_, _*_, _≤_, _<_}
+use Prim.Native.Nat.{ℕ, zero, suc, _+_, _-_, _≤_, _<_}
 use native.Mathlib.Omega.{arith}
 use native.Mathlib.Numerals.{add-one}
 use native.Mathlib.Nat.{add-assoc, add-zero}
@@ -16,13 +16,12 @@ use Rattle.fault.specs.declared.Fault.{Fault}
 use Rattle.fault.specs.declared.Fault.the-variants.{ListEndsEarly, CountOutOfRange, CoordinateOutOfRange}
 use Rattle.words.specs.Words.{Point, Group, pointsOf, pointsIn, Read, ok, fault, andThen, readCount, beyond, readCoordinate, readPoint, readPoints, readContour, readContours, readGroup, readGroups, readWords}
 use Rattle.words.specs.Scan.{countedOf, checkedOf, scanOf, groupPoints}
-use Rattle.words.specs.declared.Counted.{Counted}
 use Rattle.words.specs.declared.Counted.the-variants as counted
 use Rattle.words.specs.declared.Checked.{Checked}
 use Rattle.words.specs.declared.Checked.the-variants as checked
 use Rattle.words.specs.declared.Scan.{Scan}
 use Rattle.words.specs.declared.Scan.the-variants as scan
-use Rattle.words.proofs.Ends.{then-ok, cond-ok, Ended, ended-point, ended-points, ended-contour, ended-contours, ended-group, placed}
+use Rattle.words.proofs.Ends.{then-ok, cond-ok, Ended, ended-contour, ended-group, placed}
 
 -- ---- what an answer says
 pub counted-count : (r : Read ℕ) (n : ℕ) → countedOf r ≡ counted.Count n → (rest : List ℤ) × (r ≡ ok n rest)

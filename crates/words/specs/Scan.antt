@@ -2,7 +2,7 @@
 -- Definitions only.
 use mathlib.Core.List.{[]}
 use Prim.Native.Nat.{ℕ, _+_, _-_}
-use lib.IntN.{ℤ, pos}
+use lib.IntN.{pos}
 use lib.ListN.{length}
 use Rattle.words.specs.Words.{Group, pointsOf, Read, ok, fault}
 use Rattle.words.specs.declared.Counted.{Counted}

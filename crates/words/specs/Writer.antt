@@ -2,10 +2,10 @@
 use mathlib.Core.Path.{_≡_}
 use mathlib.Core.Bool.{false}
 use mathlib.Core.List.{List, [], _∷_, _++_}
-use Prim.Native.Nat.{ℕ, _≤_}
+use Prim.Native.Nat.{_≤_}
 use lib.IntN.{ℤ, pos}
 use lib.ListN.{length}
-use Rattle.words.specs.Words.{Point, Group, pointsIn, Read, ok, beyond, readWords}
+use Rattle.words.specs.Words.{Point, Group, pointsIn, ok, beyond, readWords}
 
 abbrev pub pointWords : Point → List ℤ
 pointWords p = p .x ∷ p .y ∷ []

@@ -6,6 +6,7 @@ ghost use Prim.Native.Nat.{_+_, _≤_};
 ghost use lib.ListN.{length, drop};
 ghost use Rattle.words.specs.Words.{beyond, readCount, readCoordinate, readPoint, readPoints, readContour, readContours, readGroup, readWords, pointsOf, pointsIn};
 ghost use Rattle.words.specs.Scan.{countedOf, checkedOf, scanOf, groupPoints};
+ghost use Rattle.words.specs.Reader.{ahead, wordOf, isEvenOdd};
 
 // Points that a list may have.
 pub const MOST_POINTS: usize = 2048;
@@ -28,14 +29,92 @@ pub enum Scan {
     Refused(Fault),
 }
 
+// A word of the list, or its end.
+pub enum Word {
+    Value(i32),
+    End,
+}
+
+// What stands at a place: the only index into a word list.
+fn value_at(words: &[i32], at: usize) -> Word
+    ensures { λ r. ⌜ r ≡ wordOf (drop at (now (words .entry))) ⌝ }
+{
+    if words.len() <= at {
+        return Word::End;
+    }
+    Word::Value(words[at])
+}
+
+// The place `by` words behind another, or the list's end.
+fn place_behind(words: &[i32], at: usize, by: usize) -> usize
+    ensures { λ r. ⌜ drop r (now (words .entry)) ≡ drop by (drop at (now (words .entry))) ⌝ }
+{
+    if words.len() <= at {
+        return at;
+    }
+    if words.len() - at < by {
+        return words.len();
+    }
+    at + by
+}
+
+// The word reader: the lent list and the place of its next word. The borrow checker covers no
+// function over it, so each is thin and its proof by hand; the work is done by those above.
+struct WordReader<'a> {
+    words: &'a [i32],
+    at: usize,
+}
+
+impl<'a> WordReader<'a> {
+    // A reader whose next word is the list's first.
+    fn new(words: &'a [i32]) -> WordReader<'a>
+        ensures { λ r. ⌜ ahead r ≡ now (words .entry) ⌝ }
+    {
+        WordReader { words, at: 0 }
+    }
+
+    // The reader `by` words on, or at the list's end.
+    fn moved(self, by: usize) -> WordReader<'a>
+        ensures { λ r. ⌜ ahead r ≡ drop by (ahead (self .entry)) ⌝ }
+    {
+        WordReader {
+            words: self.words,
+            at: place_behind(self.words, self.at, by),
+        }
+    }
+
+    // The next word.
+    fn peek(self) -> Word
+        ensures { λ r. ⌜ r ≡ wordOf (ahead (self .entry)) ⌝ }
+    {
+        value_at(self.words, self.at)
+    }
+}
+
+// The word at a place. Every word of a list is read by this call.
+pub fn word_at(words: &[i32], at: usize) -> Word
+    ensures { λ r. ⌜ r ≡ wordOf (drop at (now (words .entry))) ⌝ }
+{
+    WordReader::new(words).moved(at).peek()
+}
+
+// Whether the rule word at a place asks for even-odd. The list's end does not.
+pub fn is_even_odd_at(words: &[i32], at: usize) -> bool
+    ensures { λ r. ⌜ r ≡ isEvenOdd (wordOf (drop at (now (words .entry)))) ⌝ }
+{
+    match word_at(words, at) {
+        Word::Value(rule) => rule != 0,
+        Word::End => false,
+    }
+}
+
 // The count word at a place.
 pub fn count_at(words: &[i32], at: usize) -> Counted
     ensures { λ r. ⌜ r ≡ countedOf (readCount (drop at (now (words .entry)))) ⌝ }
 {
-    if words.len() <= at {
+    let Word::Value(word) = word_at(words, at) else {
         return Counted::Refused(Fault::ListEndsEarly);
-    }
-    let word = words[at];
+    };
     if word < 0 {
         return Counted::Refused(Fault::CountOutOfRange);
     }
@@ -56,10 +135,10 @@ fn is_beyond(word: i32) -> bool
 fn coordinate_at(words: &[i32], at: usize) -> Checked
     ensures { λ r. ⌜ r ≡ checkedOf (readCoordinate (drop at (now (words .entry)))) ⌝ }
 {
-    if words.len() <= at {
+    let Word::Value(word) = word_at(words, at) else {
         return Checked::Refused(Fault::ListEndsEarly);
-    }
-    if is_beyond(words[at]) {
+    };
+    if is_beyond(word) {
         return Checked::Refused(Fault::CoordinateOutOfRange);
     }
     Checked::Good
@@ -137,9 +216,9 @@ fn group_at(words: &[i32], from: usize, before: usize) -> Scan
     requires { ⌜ before ≤ 2048 ⌝ }
     ensures { λ r. ⌜ r ≡ scanOf (length (now (words .entry))) groupPoints before (readGroup before (drop from (now (words .entry)))) ⌝ }
 {
-    if words.len() <= from {
+    let Word::Value(_) = word_at(words, from) else {
         return Scan::Refused(Fault::ListEndsEarly);
-    }
+    };
     match count_at(words, from + 1) {
         Counted::Refused(f) => Scan::Refused(f),
         Counted::Count(n) => contours_at(words, from + 2, n, before),

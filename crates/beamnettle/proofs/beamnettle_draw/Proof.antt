@@ -3,15 +3,15 @@ use borrow.Author.Needs.{needs}
 use mathlib.Core.Path.{_∙_, ap}
 use Rattle.mask.specs.declared.Outcome.{Outcome}
 use Rattle.mask.specs.Calls.{maskAfterDrawing, floatsAfterDrawing, countersAfterDrawing}
-use Rattle.beamnettle.specs.Calls.{drawNumber}
+use Rattle.beamnettle.specs.Calls.{outcomeNumber}
 use Rattle.beamnettle.proofs.beamnettle_draw.Statement.{statement}
 use Rattle.beamnettle.proofs.beamnettle_draw.Tie as tie
 
 rasterize-into-requires : tie.Need-rasterize-into-requires
 rasterize-into-requires c κs = search needs
 
-draw-number-requires : tie.Need-draw-number-requires
-draw-number-requires c κs = search needs
+outcome-number-requires : tie.Need-outcome-number-requires
+outcome-number-requires c κs = search needs
 
 same-length : tie.Need-same-length
 same-length c = search needs
@@ -26,7 +26,7 @@ returns : tie.Need-returns
 returns c =
     let args = c .before .before .before .before .before .before .before .before .before .before .before .before .before .before .args in
     let drawn = c .before .before .before .before .before .before .before .rasterize-into .ensures in (
-      c .draw-number .ensures ∙ ap drawNumber (drawn .0),
+      c .outcome-number .ensures ∙ ap outcomeNumber (drawn .0),
       (
         drawn .1 .0 ∙ ap (λ (o : Outcome). maskAfterDrawing o (record { width = args .width; height = args .height }) (args .words .now) (args .mask .now)) (drawn .0),
         (
@@ -41,7 +41,7 @@ beamnettle-draw-spec =
     tie.close
     (tie.spec
     rasterize-into-requires
-    draw-number-requires
+    outcome-number-requires
     same-length
     same-length-2
     same-length-3

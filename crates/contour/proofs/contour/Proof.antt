@@ -1,14 +1,11 @@
 -- `contour::contour` meets its contract: the walk around the contour. Assumes nothing.
-use mathlib.Core.Path.{_≡_, refl, sym, ap, _∙_, subst}
-use mathlib.Core.List.{[]}
+use mathlib.Core.Path.{_≡_, refl, ap, _∙_, subst}
 use mathlib.Core.Bool.{false}
 use Prim.Native.Nat.{ℕ, _+_, _-_, _*_}
 use native.Mathlib.Omega.{arith}
 use lib.IntN.{pos}
 use lib.ListN.{length, getD}
-use borrow.Author.Needs.{needs}
-use Rattle.edge.specs.Stored.{Pushed}
-use Rattle.edge.specs.Edges.{coordinateOf, contourOf}
+use Rattle.edge.specs.Edges.{coordinateOf}
 use Rattle.words.specs.Words.{beyond}
 use Rattle.contour.proofs.Walking.{Walk, walk-start, walk-more, walk-end, walk-inside, last-there, points-read, no-points, positive}
 use Rattle.contour.proofs.contour.Statement.{statement}

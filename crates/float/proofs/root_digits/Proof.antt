@@ -1,87 +1,62 @@
--- `float::root_digits` meets its contract: proofs/RootLoop.antt has the invariant and shows that a turn keeps it. Assumes nothing.
-use Prim.Native.Nat.{ℕ, _*_, _/_, _^_, _-_, _≤_, _<_}
-use Rattle.float.proofs.RootLoop.{Digits, start, pair-lt, root-fits, step-one, step-zero}
-use mathlib.Core.Logic.{⊎-elim}
-use mathlib.Core.Path.{_≡_, ap, _∙_, subst}
-use native.Mathlib.Nat.{le-antisymm}
+-- `float::root_digits` meets its contract: proofs/RootExtend.antt. Assumes nothing.
+use mathlib.Core.Logic.{_≢_, _⊎_, inl, inr}
+use mathlib.Core.Path.{_≡_, sym, subst}
+use Prim.Native.Nat.{ℕ}
 use native.Mathlib.Omega.{arith}
+use Rattle.float.specs.Parts.{RootDigits}
+use Rattle.float.proofs.RootExtend.{thirteen, twenty-five, fourteen, half, fifty-four}
+use borrow.Author.Needs.{needs}
 use Rattle.float.proofs.root_digits.Statement.{statement}
 use Rattle.float.proofs.root_digits.Tie as tie
 
-abbrev Inv-loop : tie.InvT-loop
-Inv-loop a steps left₀ root₀ rest₀ i₀ left root rest i = Digits a steps left root rest i
+not-first : {steps : ℕ} → steps ≢ 25 → (steps ≡ 25) ⊎ (steps ≡ 54) → steps ≡ 54
+not-first n (inl e) = absurd (n e)
+not-first n (inr e) = e
 
-abbrev μ-loop : tie.MeasureT-loop
-μ-loop a steps left₀ root₀ rest₀ i₀ left root rest i = steps - i
+root-by-digits-requires : tie.Need-root-by-digits-requires
+root-by-digits-requires c κs = search needs
 
--- the numbers of a turn are small
-small : (c : tie.In-loop Inv-loop μ-loop)
-    → (c .before .loop .rest ≤ 2 * c .before .loop .root) × (c .before .loop .root < 2 ^ 54) × (c .before .loop .left / 2 ^ 62 < 4)
-small c =
-    let d = c .before .loop .inv in
-    (d .within, root-fits d (c .loop-test .taken) (c .before .before .pre), pair-lt d (c .loop-test .taken))
+extend-root-requires : tie.Need-extend-root-requires
+extend-root-requires c κs = let d = c .root-by-digits in thirteen (c .before .before .args .a) (c .before .before .pre .1) (omega arith) (d .result .root) (d .result .rest) (d .ensures)
 
-loop-holds : tie.Need-loop-holds Inv-loop μ-loop
-loop-holds c = start (c .args .a) (c .args .steps) (omega arith)
-
-mul-rest : tie.Need-mul-rest Inv-loop μ-loop
-mul-rest c = omega (arith, small c)
-
-add-rest : tie.Need-add-rest Inv-loop μ-loop
-add-rest c = omega (arith, small c)
-
-mul-left : tie.Need-mul-left Inv-loop μ-loop
-mul-left c = omega arith
-
-mul-trial : tie.Need-mul-trial Inv-loop μ-loop
-mul-trial c = omega (arith, small c)
-
-add-trial : tie.Need-add-trial Inv-loop μ-loop
-add-trial c = omega (arith, small c)
-
-mul-root : tie.Need-mul-root Inv-loop μ-loop
-mul-root c = omega (arith, small c)
-
-add-root : tie.Need-add-root Inv-loop μ-loop
-add-root c = omega (arith, small (c .before))
-
-add-i : tie.Need-add-i Inv-loop μ-loop
-add-i c = let p = c .before .before .before .pre in let t = c .before .loop-test .taken in omega arith
-
-loop-less : tie.Need-loop-less Inv-loop μ-loop
-loop-less c = let t = c .before .loop-test .taken in omega arith
-
-loop-again : tie.Need-loop-again Inv-loop μ-loop
-loop-again c =
-    let d = c .before .before .loop .inv in
-    let m = c .before .loop-test .taken in
-    ⊎-elim (λ w. rw (w .1, w .2) (step-one d m (w .0 .taken))) (λ w. rw (w .1, w .2) (step-zero d m (w .0 .left))) (c .if1 .came)
-
-returns : tie.Need-returns Inv-loop μ-loop
+returns : tie.Need-returns
 returns c =
-    let d = c .before .loop .inv in
-    let e : c .before .loop .i ≡ c .before .before .args .steps = le-antisymm (d .upto) (c .loop-test .left) in
-    record {
-      square = d .square ∙ ap (λ (i : ℕ). c .before .before .args .a * 4 ^ i / 2 ^ 64) e;
-      left = d .within;
-      short = subst (λ (i : ℕ). c .before .loop .root < 2 ^ i) e (d .short);
-    }
+    let args = c .before .before .before .args in
+    let d = c .before .root-by-digits in
+    let e = c .extend-root in
+    subst (λ (i : ℕ). RootDigits (args .a) i (e .result .root) (e .result .rest)) (sym (c .before .before .if1 .taken))
+    (twenty-five (args .a) (c .before .before .before .pre .1) (omega arith) (d .result .root) (d .result .rest) (d .ensures) (e .result .root) (e .result .rest) (e .ensures))
+
+root-by-digits-requires-2 : tie.Need-root-by-digits-requires-2
+root-by-digits-requires-2 c κs = search needs
+
+extend-root-requires-2 : tie.Need-extend-root-requires-2
+extend-root-requires-2 c κs = let d = c .root-by-digits2 in fourteen (c .before .before .args .a) (c .before .before .pre .1) (omega arith) (d .result .root) (d .result .rest) (d .ensures)
+
+mul-extend-root : tie.Need-mul-extend-root
+mul-extend-root c = search needs
+
+extend-root-requires-3 : tie.Need-extend-root-requires-3
+extend-root-requires-3 c κs = let d = c .before .root-by-digits2 in let e = c .extend-root2 in half (c .before .before .before .args .a) (c .before .before .before .pre .1) (omega arith) (d .result .root) (d .result .rest) (d .ensures) (e .result .root) (e .result .rest) (e .ensures)
+
+returns-2 : tie.Need-returns-2
+returns-2 c =
+    let args = c .before .before .before .before .args in
+    let d = c .before .before .root-by-digits2 in
+    let e = c .before .extend-root2 in
+    let f = c .extend-root3 in
+    subst (λ (i : ℕ). RootDigits (args .a) i (f .result .root) (f .result .rest)) (sym (not-first (c .before .before .before .if1 .left) (c .before .before .before .before .pre .0)))
+    (fifty-four (args .a) (c .before .before .before .before .pre .1) (omega arith) (d .result .root) (d .result .rest) (d .ensures) (e .result .root) (e .result .rest) (e .ensures) (f .result .root) (f .result .rest) (f .ensures))
 
 pub root-digits-spec : {M : Type 1} → statement M
 root-digits-spec =
     tie.close
     (tie.spec
-    Inv-loop
-    μ-loop
-    loop-holds
-    mul-rest
-    add-rest
-    mul-left
-    mul-trial
-    add-trial
-    mul-root
-    add-root
-    add-i
-    loop-less
-    loop-again
-    returns)
+    root-by-digits-requires
+    extend-root-requires
+    returns
+    root-by-digits-requires-2
+    extend-root-requires-2
+    mul-extend-root
+    extend-root-requires-3
+    returns-2)

@@ -1,5 +1,8 @@
 -- `float::root_parts` meets its contract, by the law of proofs/Rooting.antt. Assumes nothing.
 use Rattle.float.proofs.Rooting.{root-parts}
+use mathlib.Core.Logic.{_⊎_, inl, inr}
+use mathlib.Core.Path.{_≡_}
+use Prim.Native.Nat.{ℕ, _+_, _≤_}
 use lib.Dec.{lit≤}
 use lib.Pow.{pow-mono}
 use native.Mathlib.Nat.{lt-of-lt-of-le, le-trans}
@@ -8,17 +11,25 @@ use borrow.Author.Needs.{needs}
 use Rattle.float.proofs.root_parts.Statement.{statement}
 use Rattle.float.proofs.root_parts.Tie as tie
 
+keep-most : {keep : ℕ} → (keep ≡ 24) ⊎ (keep ≡ 53) → keep ≤ 53
+keep-most (inl e) = omega arith
+keep-most (inr e) = omega arith
+
+one-more : {keep : ℕ} → (keep ≡ 24) ⊎ (keep ≡ 53) → (keep + 1 ≡ 25) ⊎ (keep + 1 ≡ 54)
+one-more (inl e) = inl (omega arith)
+one-more (inr e) = inr (omega arith)
+
 add-align : tie.Need-add-align
 add-align c = search needs
 
 align-requires : tie.Need-align-requires
-align-requires c κs = let p = c .pre in (p .0, (lt-of-lt-of-le (p .1 .0) (le-trans (pow-mono (p .1 .1 .0)) (lit≤ tt)), omega arith))
+align-requires c κs = let p = c .pre in (p .0, (lt-of-lt-of-le (p .1 .0) (le-trans (pow-mono (keep-most (p .1 .1 .0))) (lit≤ tt)), omega arith))
 
 add-root-digits : tie.Need-add-root-digits
-add-root-digits c = search needs
+add-root-digits c = let p = keep-most (c .before .pre .1 .1 .0) in omega arith
 
 root-digits-requires : tie.Need-root-digits-requires
-root-digits-requires c κs = search needs
+root-digits-requires c κs = (one-more (c .before .pre .1 .1 .0), c .align .ensures .high)
 
 round-root-requires : tie.Need-round-root-requires
 round-root-requires c κs = search needs

@@ -1,8 +1,8 @@
 -- `mask::draw` meets its contract. Assumes nothing.
 use borrow.Author.Needs.{needs}
-use mathlib.Core.Path.{_≡_, refl, sym, ap, _∙_}
+use mathlib.Core.Path.{ap, _∙_}
 use Prim.Native.Nat.{ℕ}
-use lib.ListN.{length, replicate}
+use lib.ListN.{replicate}
 use Rattle.float.specs.Ops.{f0}
 use Rattle.mask.proofs.Cleared.{prefix, floats-long, counters-long, cleared-room, cleared-clean, cleared-zeros}
 use Rattle.mask.proofs.draw.Statement.{statement}

@@ -1,18 +1,15 @@
 -- `mask::draw_group` meets its contract. Assumes nothing.
-use borrow.Author.Needs.{needs, sfits-of}
-use mathlib.Core.Path.{_≡_, refl, sym, ap, _∙_}
-use mathlib.Core.Bool.{Bool, not}
+use borrow.Author.Needs.{needs}
+use mathlib.Core.Path.{sym, ap, _∙_}
 use native.Mathlib.Omega.{arith}
-use lib.Dec.{eqb}
-use lib.IntN.{pos}
-use lib.ListN.{getD, drop}
-use mir.Syntax.{w32}
-use mir.Val.{ofZ}
+use lib.ListN.{drop}
 use Rattle.words.specs.Words.{readGroup, readOr}
 use Rattle.words.specs.Scan.{noGroup}
+use Rattle.words.specs.Reader.{isEvenOdd}
+use Rattle.words.proofs.Reader.{word-here}
 use Rattle.words.proofs.Places.{group-there}
 use Rattle.contour.proofs.Several.{same-count, not-refused}
-use Rattle.mask.proofs.OneGroup.{contours-fine, contours-room, contours-end, stored-few, stored-clean, stored-room, holds, stored, zero-word}
+use Rattle.mask.proofs.OneGroup.{contours-fine, contours-room, contours-end, stored-few, stored-clean, stored-room, holds, stored}
 use Rattle.mask.proofs.draw_group.Statement.{statement}
 use Rattle.mask.proofs.draw_group.Tie as tie
 
@@ -56,11 +53,8 @@ contours-requires c κs =
       (there .within, (contours-room (args .mask .now) (args .floats .now) (args .counters .now) (args .size) (args .points) (args .words .now) (args .at) (pre .0) (pre .1 .1 .1 .1) there (n-known .given .0 .0) e, pre .0 .low)),
     )
 
-mul-resolve : tie.Need-mul-resolve
-mul-resolve c = search needs
-
-shared-slice-copy-out-resolve : tie.Need-shared-slice-copy-out-resolve
-shared-slice-copy-out-resolve c = search needs
+is-even-odd-at-requires : tie.Need-is-even-odd-at-requires
+is-even-odd-at-requires c κs = search needs
 
 resolve-requires : tie.Need-resolve-requires
 resolve-requires c κs =
@@ -69,10 +63,12 @@ resolve-requires c κs =
     let count-at = c .before .before .before .before .before .before .before .before .before .before .before .count-at in
     let n-known = c .before .before .before .before .before .before .before .before .before .n in
     let contours = c .before .before .before .before .before .before .contours in
+    let even-odd = c .is-even-odd-at in
+    let rule = even-odd .ensures ∙ ap isEvenOdd (sym (word-here (args .words .now) (args .at) (pre .1 .1 .0))) in
     let there = group-there (args .words .now) (args .at) (pre .1 .1 .0) (pre .1 .1 .1 .0) in
     let e = same-count (count-at .result) (n-known .given .0 .0) (there .count) (n-known .given .1) (count-at .ensures ∙ there .read) in (
       stored-room (args .mask .now) (args .floats .now) (args .counters .now) (args .size) (args .points) (args .words .now) (args .at) (pre .0) (pre .1 .1 .1 .1) there (n-known .given .0 .0) e (contours .last .1 .1 .1 .0) (contours .result .count) (contours .kept .1 .1 .1 .0) (contours .ensures .0),
-      (stored-clean (args .mask .now) (args .floats .now) (args .counters .now) (args .size) (args .points) (args .words .now) (args .at) (pre .0) (pre .1 .1 .1 .1) there (n-known .given .0 .0) e (contours .last .1 .1 .1 .0) (contours .result .count) (contours .kept .1 .1 .1 .0) (contours .ensures .0) (pre .1 .0), (stored-few (args .mask .now) (args .floats .now) (args .counters .now) (args .size) (args .points) (args .words .now) (args .at) (pre .0) (pre .1 .1 .1 .1) there (n-known .given .0 .0) e (contours .last .1 .1 .1 .0) (contours .result .count) (contours .kept .1 .1 .1 .0) (contours .ensures .0), stored (args .mask .now) (args .floats .now) (args .counters .now) (args .size) (args .points) (args .words .now) (args .at) (pre .0) (pre .1 .1 .1 .1) there (n-known .given .0 .0) e (contours .last .1 .1 .1 .0) (contours .result .count) (contours .kept .1 .1 .1 .0) (contours .ensures .0) (not (eqb (ofZ w32 (getD (args .words .now) (args .at) (pos 0))) 0)) (ap not (zero-word (getD (args .words .now) (args .at) (pos 0)) (sfits-of (c .resolve-arg4 .given)))))),
+      (stored-clean (args .mask .now) (args .floats .now) (args .counters .now) (args .size) (args .points) (args .words .now) (args .at) (pre .0) (pre .1 .1 .1 .1) there (n-known .given .0 .0) e (contours .last .1 .1 .1 .0) (contours .result .count) (contours .kept .1 .1 .1 .0) (contours .ensures .0) (pre .1 .0), (stored-few (args .mask .now) (args .floats .now) (args .counters .now) (args .size) (args .points) (args .words .now) (args .at) (pre .0) (pre .1 .1 .1 .1) there (n-known .given .0 .0) e (contours .last .1 .1 .1 .0) (contours .result .count) (contours .kept .1 .1 .1 .0) (contours .ensures .0), stored (args .mask .now) (args .floats .now) (args .counters .now) (args .size) (args .points) (args .words .now) (args .at) (pre .0) (pre .1 .1 .1 .1) there (n-known .given .0 .0) e (contours .last .1 .1 .1 .0) (contours .result .count) (contours .kept .1 .1 .1 .0) (contours .ensures .0) (even-odd .result) rule)),
     )
 
 same-length : tie.Need-same-length
@@ -91,11 +87,12 @@ returns-2 c =
     let count-at = c .before .before .before .before .before .before .before .before .before .before .before .before .before .before .before .before .before .before .count-at in
     let n-known = c .before .before .before .before .before .before .before .before .before .before .before .before .before .before .before .before .n in
     let contours = c .before .before .before .before .before .before .before .before .before .before .before .before .before .contours in
-    let resolve-arg4 = c .before .before .before .before .before .before .before .resolve-arg4 in
+    let even-odd = c .before .before .before .before .before .before .before .is-even-odd-at in
+    let rule = even-odd .ensures ∙ ap isEvenOdd (sym (word-here (args .words .now) (args .at) (pre .1 .1 .0))) in
     let resolve = c .before .before .before .before .before .before .resolve in
     let there = group-there (args .words .now) (args .at) (pre .1 .1 .0) (pre .1 .1 .1 .0) in
     let e = same-count (count-at .result) (n-known .given .0 .0) (there .count) (n-known .given .1) (count-at .ensures ∙ there .read) in (
-      resolve .ensures .0 (readOr noGroup (readGroup 0 (drop (args .at) (args .words .now)))) (holds (args .mask .now) (args .floats .now) (args .counters .now) (args .size) (args .points) (args .words .now) (args .at) (pre .0) (pre .1 .1 .1 .1) there (n-known .given .0 .0) e (contours .last .1 .1 .1 .0) (contours .result .count) (contours .kept .1 .1 .1 .0) (contours .ensures .0) (not (eqb (ofZ w32 (getD (args .words .now) (args .at) (pos 0))) 0)) (ap not (zero-word (getD (args .words .now) (args .at) (pos 0)) (sfits-of (resolve-arg4 .given))))),
+      resolve .ensures .0 (readOr noGroup (readGroup 0 (drop (args .at) (args .words .now)))) (holds (args .mask .now) (args .floats .now) (args .counters .now) (args .size) (args .points) (args .words .now) (args .at) (pre .0) (pre .1 .1 .1 .1) there (n-known .given .0 .0) e (contours .last .1 .1 .1 .0) (contours .result .count) (contours .kept .1 .1 .1 .0) (contours .ensures .0) (even-odd .result) rule),
       (contours .ensures .1 ∙ contours-end (args .mask .now) (args .floats .now) (args .counters .now) (args .size) (args .points) (args .words .now) (args .at) (pre .0) (pre .1 .1 .1 .1) there (n-known .given .0 .0) e, resolve .ensures .1),
     )
 
@@ -110,8 +107,7 @@ draw-group-spec =
     returns
     add-contours
     contours-requires
-    mul-resolve
-    shared-slice-copy-out-resolve
+    is-even-odd-at-requires
     resolve-requires
     same-length
     same-length-2

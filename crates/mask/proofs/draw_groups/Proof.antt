@@ -1,7 +1,5 @@
 -- `mask::draw_groups` meets its contract. Assumes nothing.
-use borrow.Author.Needs.{needs}
-use mathlib.Core.Path.{_≡_, refl, sym, ap, _∙_}
-use Prim.Native.Nat.{_-_}
+use Prim.Native.Nat.{_-_, _<_}
 use native.Mathlib.Omega.{arith}
 use lib.ListN.{length}
 use Rattle.mask.proofs.AllGroups.{Standing, standing-start, standing-room, standing-end, the-next, next-few, standing-more}
@@ -25,7 +23,7 @@ draw-group-requires c κs =
     let args = c .before .before .before .before .before .before .before .before .args in
     let pre = c .before .before .before .before .before .before .before .before .pre in
     let loop = c .before .before .before .before .loop in
-    let more = c .before .before .before .loop-test .taken in (
+    let more : loop .at < length (args .words .now) = omega (arith, c .before .before .before .loop-test .taken) in (
       standing-room (args .size) (args .points) (args .words .now) (args .mask .now) (args .floats .now) (args .counters .now) (pre .0) (loop .mask) (loop .floats) (loop .counters) (loop .at) (loop .inv),
       (loop .inv .clean, (more, (the-next (args .size) (args .points) (args .words .now) (args .mask .now) (args .floats .now) (args .counters .now) (pre .0) (loop .mask) (loop .floats) (loop .counters) (loop .at) (loop .inv) more .fine, next-few (args .size) (args .points) (args .words .now) (args .mask .now) (args .floats .now) (args .counters .now) (pre .0) (loop .mask) (loop .floats) (loop .counters) (loop .at) (loop .inv) more))),
     )
@@ -37,7 +35,7 @@ loop-less c =
     let loop = c .before .before .before .before .before .before .before .before .before .before .before .loop in
     let loop-test = c .before .before .before .before .before .before .before .before .before .before .loop-test in
     let draw-group = c .before .before .before .before .before .before .draw-group in
-    let more = loop-test .taken in
+    let more : loop .at < length (args .words .now) = omega (arith, loop-test .taken) in
     let n = the-next (args .size) (args .points) (args .words .now) (args .mask .now) (args .floats .now) (args .counters .now) (pre .0) (loop .mask) (loop .floats) (loop .counters) (loop .at) (loop .inv) more in
     let f = n .forward in
     let q = draw-group .ensures .1 .0 in
@@ -50,7 +48,7 @@ loop-again c =
     let loop = c .before .before .before .before .before .before .before .before .before .before .before .loop in
     let loop-test = c .before .before .before .before .before .before .before .before .before .before .loop-test in
     let draw-group = c .before .before .before .before .before .before .draw-group in
-    standing-more (args .size) (args .points) (args .words .now) (args .mask .now) (args .floats .now) (args .counters .now) (pre .0) (loop .mask) (loop .floats) (loop .counters) (loop .at) (loop .inv) (loop-test .taken) (draw-group .last .0) (draw-group .last .1 .0) (draw-group .last .1 .1 .0) (draw-group .result) (draw-group .kept .0) (draw-group .kept .1 .0) (draw-group .kept .1 .1 .0) (draw-group .ensures .0) (draw-group .ensures .1 .0) (draw-group .ensures .1 .1)
+    standing-more (args .size) (args .points) (args .words .now) (args .mask .now) (args .floats .now) (args .counters .now) (pre .0) (loop .mask) (loop .floats) (loop .counters) (loop .at) (loop .inv) (omega (arith, loop-test .taken)) (draw-group .last .0) (draw-group .last .1 .0) (draw-group .last .1 .1 .0) (draw-group .result) (draw-group .kept .0) (draw-group .kept .1 .0) (draw-group .kept .1 .1 .0) (draw-group .ensures .0) (draw-group .ensures .1 .0) (draw-group .ensures .1 .1)
 
 same-length : tie.Need-same-length Inv-loop μ-loop
 same-length c = c .before .loop .inv .mask-long

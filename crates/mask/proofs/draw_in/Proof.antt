@@ -1,11 +1,11 @@
 -- `mask::draw_in` meets its contract. Assumes nothing.
 use borrow.Author.Needs.{needs}
-use mathlib.Core.Path.{_≡_, refl, sym, ap, _∙_}
+use mathlib.Core.Path.{refl, ap}
 use mathlib.Core.List.{List, _++_}
-use Prim.Native.Nat.{ℕ, _*_}
+use Prim.Native.Nat.{ℕ}
 use native.Mathlib.Omega.{arith}
-use lib.ListN.{length, drop, replicate}
-use Rattle.mask.specs.Calls.{Lent, cellsOf}
+use lib.ListN.{length, drop}
+use Rattle.mask.specs.Calls.{cellsOf}
 use Rattle.mask.proofs.Answers.{floats-short, counters-short, scratch-enough, cells-long, room-there}
 use Rattle.mask.proofs.draw_in.Statement.{statement}
 use Rattle.mask.proofs.draw_in.Tie as tie

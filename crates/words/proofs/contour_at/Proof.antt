@@ -1,9 +1,9 @@
 -- `words::contour_at` meets its contract. Assumes nothing.
 use borrow.Author.Needs.{needs}
-use mathlib.Core.Path.{_≡_, refl, sym, ap, _∙_}
+use mathlib.Core.Path.{sym, _∙_}
 use native.Mathlib.Omega.{arith}
-use Prim.Native.Nat.{ℕ, _+_, _-_, _≤_, _<_}
-use lib.ListN.{length, drop}
+use Prim.Native.Nat.{_-_}
+use lib.ListN.{drop}
 use Rattle.words.specs.Words.{readCount}
 use Rattle.words.proofs.Steps.{counted-count, counted-fault, count-next, contour-count, contour-many, contour-points}
 use Rattle.words.proofs.contour_at.Statement.{statement}

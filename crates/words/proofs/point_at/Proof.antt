@@ -1,6 +1,6 @@
 -- `words::point_at` meets its contract. Assumes nothing.
 use borrow.Author.Needs.{needs}
-use mathlib.Core.Path.{_≡_, refl, sym, ap, _∙_}
+use mathlib.Core.Path.{sym, _∙_}
 use native.Mathlib.Omega.{arith}
 use Rattle.words.proofs.Steps.{coordinate-next, point-first, point-second}
 use Rattle.words.proofs.point_at.Statement.{statement}

@@ -1,21 +1,23 @@
--- `shape::Check::in_range` meets its contract. Assumes nothing.
+-- `shape::Check::in_range` meets its contract: the size of what is not finite is at most nothing. Assumes nothing.
+use mathlib.Core.Path.{_≡_, refl}
+use lib.Ieee.{Float, nan, inf, fin, ofBits, ofFields, odd, lt, le, eq}
+use Rattle.float.specs.Simple.{absOf}
+use Rattle.shape.specs.Limits.{largestNumber}
 use Rattle.shape.specs.Checks.{inRangeOf}
 use Rattle.shape.proofs.Check.in_range.Statement.{statement}
 use Rattle.shape.proofs.Check.in_range.Tie as tie
 
-is-finite-requires : tie.Need-is-finite-requires
-is-finite-requires c κs = tt
+small-enough : (x : Float) → le (absOf x) largestNumber ≡ inRangeOf x
+unfolding inRangeOf absOf le lt eq ofBits ofFields odd
+small-enough nan = refl
+small-enough (inf s) = refl
+small-enough (fin s m e) = refl
 
 abs-requires : tie.Need-abs-requires
 abs-requires c κs = tt
 
 returns : tie.Need-returns
-unfolding inRangeOf
-returns c = rw (← c .before .before .is-finite .ensures, c .before .if1 .taken, c .abs .ensures)
-
-returns-2 : tie.Need-returns-2
-unfolding inRangeOf
-returns-2 c = rw (← c .before .is-finite .ensures, c .if1 .left)
+returns c = rw (c .abs .ensures) (small-enough (c .before .args .x))
 
 pub in-range-spec : {M : Type 1} → statement M
-in-range-spec = tie.close (tie.spec is-finite-requires abs-requires returns returns-2)
+in-range-spec = tie.close (tie.spec abs-requires returns)

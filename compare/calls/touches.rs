@@ -1,0 +1,117 @@
+//! Touch lists. The program answers the first place that is right, and so does the list.
+use crate::list::{up, upright, List, Random};
+
+type Box10 = [f32; 10];
+
+impl List {
+    fn touch(&mut self, boxes: &[Box10], fringe: f32, point: [f32; 2]) {
+        let floats = [&boxes.concat()[..], &[fringe], &point].concat();
+        self.call(&format!("touch {}", boxes.len()), &floats);
+    }
+}
+
+/// Boxes side by side, which share nothing.
+fn row(n: usize) -> Vec<Box10> {
+    let one = |at| upright(8.0 * at as f32, 0.0, [2.0, 1.0], [0.0; 2]);
+    (0..n).map(one).collect()
+}
+
+fn with(mut one: Box10, at: usize, x: f32) -> Box10 {
+    one[at] = x;
+    one
+}
+
+/// Places, and which boxes a point touches.
+fn places(l: &mut List) {
+    l.line("# touch: places");
+    l.touch(&[], 1.0, [0.0, 0.0]);
+    for at in 0..4 {
+        l.touch(&row(3), 1.0, [8.0 * at as f32, 0.5]);
+    }
+    l.touch(&[row(1), row(2)].concat(), 1.0, [0.0, 0.0]);
+    l.touch(&[row(2), row(2)].concat(), 1.0, [8.0, 0.0]);
+    for extent in [2.0, 1.0, 0.5, 0.4375, 0.0] {
+        let boxes = [upright(0.0, 0.0, [extent; 2], [0.0; 2]), row(1)[0]];
+        l.touch(&boxes, 1.0, [0.0, 0.0]);
+        l.touch(&boxes[..1], 1.0, [0.0, 0.0]);
+    }
+    for fringe in [0.0, -1.0, 1e-45, 0.5, 2.0, 2.5] {
+        l.touch(&row(2), fringe, [8.0, 0.0]);
+    }
+    for frame in [
+        [0.0; 4],
+        [1.0; 4],
+        [-2.0, 0.0, 0.0, 0.5],
+        [0.0, 1.0, -1.0, 0.0],
+    ] {
+        let mut one = row(2)[1];
+        one[..4].copy_from_slice(&frame);
+        l.touch(&[one], 1.0, [8.0, 1.5]);
+        l.touch(&[one], 1.0, [10.0, 0.0]);
+    }
+    for x in [-2.0, -up(2.0), 2.0, up(2.0)] {
+        l.touch(&row(1), 1.0, [x, 0.0]);
+        l.touch(&row(1), 1.0, [x, 1.0]);
+        l.touch(&row(1), 1.0, [x, up(1.0)]);
+        l.touch(&[upright(0.0, 0.0, [2.0, 1.0], [2.0, 1.0])], 1.0, [x, 0.0]);
+    }
+    for x in [0.0, 1.25, 1.5, 1.75, 2.0] {
+        l.touch(&[upright(0.0, 0.0, [2.0, 1.0], [1.0; 2])], 1.0, [x, 0.75]);
+    }
+}
+
+/// Numbers 12, 1 and 2, and their order.
+fn refusals(l: &mut List) {
+    l.line("# touch: numbers 12, 1 and 2, and their order");
+    l.touch(&row(256), 1.0, [8.0 * 255.0, 0.0]);
+    let mut many = row(257);
+    many[0][0] = f32::NAN;
+    l.touch(&many, f32::NAN, [0.0, 0.0]);
+    let good = row(3);
+    let faults = [
+        (0, f32::INFINITY),
+        (6, -1.0),
+        (7, -0.0),
+        (8, 2.0),
+        (8, up(2.0)),
+        (9, 1.0),
+        (9, up(1.0)),
+        (9, -1e-45),
+    ];
+    for (at, x) in faults {
+        for place in 0..3 {
+            let mut boxes = good.clone();
+            boxes[place][at] = x;
+            l.touch(&boxes, 1.0, [8.0, 0.0]);
+        }
+        let [one, two] = [with(good[0], at, x), with(good[1], 5, f32::NAN)];
+        l.touch(&[one, two], f32::NAN, [0.0, 0.0]);
+        l.touch(&[two, one], f32::NAN, [0.0, 0.0]);
+        l.touch(&[good[0], one], f32::NAN, [0.0, 0.0]);
+    }
+    for bad in [f32::NAN, up(1_048_576.0)] {
+        l.touch(&[], bad, [0.0, 0.0]);
+        l.touch(&[], 1.0, [bad, 0.0]);
+        l.touch(&[], 1.0, [0.0, bad]);
+        l.touch(&good, bad, [8.0, 0.0]);
+        l.touch(&good, 1.0, [8.0, bad]);
+    }
+}
+
+fn random(l: &mut List) {
+    let r = &mut Random(0x5851_f42d_4c95_7f2d);
+    l.line("# random touch lists");
+    for _ in 0..60 {
+        let boxes: Vec<Box10> = (0..=r.below(4)).map(|_| r.boxed()).collect();
+        let [a, b, c, d, x, y, width, height, ..] = boxes[r.below(boxes.len() as u64) as usize];
+        let (along, across) = (r.float(-1.5, 1.5) * width, r.float(-1.5, 1.5) * height);
+        let point = [x + a * along + c * across, y + b * along + d * across];
+        l.touch(&boxes, [1.0, 0.5, 2.0][r.below(3) as usize], point);
+    }
+}
+
+pub fn touches(l: &mut List) {
+    places(l);
+    refusals(l);
+    random(l);
+}

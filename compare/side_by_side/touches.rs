@@ -1,0 +1,83 @@
+//! Random and hostile touch lists.
+use crate::{
+    boxes::{fringe, near, number, shape, LIMIT},
+    call::Call,
+    random::Random,
+};
+use femtovg::calls::{self, Box10};
+
+/// A box that is not refused.
+fn proper(random: &mut Random) -> Box10 {
+    loop {
+        let one = shape(random);
+        if calls::bounds(one).is_ok() {
+            return one;
+        }
+    }
+}
+
+fn length(random: &mut Random) -> usize {
+    match random.below(40) {
+        0 => random.pick(&[255, 256, 257]),
+        1 => random.below(261),
+        2..=4 => 0,
+        5..=9 => 1,
+        _ => 2 + random.below(9),
+    }
+}
+
+/// Makes a box one that is likely refused.
+fn spoil(random: &mut Random, one: &mut Box10) {
+    let (at, side) = (random.below(10), 6 + random.below(2));
+    match random.below(4) {
+        0 => one[at] = number(random),
+        1 => one[at] = random.pick(&[f32::NAN, f32::INFINITY, -f32::INFINITY, 2.0 * LIMIT]),
+        2 => one[side] = -1e-40,
+        _ => one[side + 2] = f32::from_bits(one[side].to_bits() + 1),
+    }
+}
+
+/// A point on the frame of a box, by its sides.
+fn on_frame(random: &mut Random, one: Box10) -> [f32; 2] {
+    let [a, b, c, d, x, y, width, height, ..] = one;
+    let (mut along, mut across) = (random.float(-1.0, 1.0), random.float(-1.0, 1.0));
+    let side = random.pick(&[-1.0, 1.0]);
+    match random.below(3) {
+        0 => along = side,
+        1 => across = side,
+        _ => (along, across) = (side, random.pick(&[-1.0, 0.0, 1.0])),
+    }
+    let (along, across) = (along * width, across * height);
+    [x + a * along + c * across, y + b * along + d * across]
+}
+
+/// Lists of boxes that lie in one another's way, or so far apart that a point touches few.
+pub fn list(random: &mut Random) -> Call {
+    let mut boxes: Vec<Box10> = (0..length(random)).map(|_| proper(random)).collect();
+    if random.one_in(2) {
+        for (at, one) in boxes.iter_mut().enumerate() {
+            one[4] = 4000.0 * at as f32 + random.float(-9.0, 9.0);
+        }
+    }
+    let aim = if boxes.is_empty() {
+        shape(random)
+    } else {
+        boxes[random.below(boxes.len())]
+    };
+    if random.one_in(4) && !boxes.is_empty() {
+        for _ in 0..random.pick(&[1, 1, 2, 3]) {
+            let at = random.below(boxes.len());
+            spoil(random, &mut boxes[at]);
+        }
+    }
+    let point = if random.one_in(3) {
+        on_frame(random, aim)
+    } else {
+        near(random, aim)
+    };
+    Call::Touch {
+        boxes,
+        fringe: fringe(random),
+        point,
+    }
+}

@@ -1,0 +1,2 @@
+-- Shown: the theorem, `starred-shown`.
+pub mod Shown

@@ -1,0 +1,67 @@
+-- Document 01's starred examples, computed from the definitions that the contracts cite. Assumes nothing.
+use mathlib.Core.Path.{refl}
+use lib.Count.{trailingZeros}
+use lib.Ieee.{ofBits, ofFields, odd, units, round, size, span, climb, ofInt, add, sub, sum, mul, div, rem, neg, lt, le, eq, ne, isNan, toUnsigned}
+use Rattle.float.specs.Simple.{absOf, minOf, maxOf}
+use Rattle.float.specs.Width.{narrowOf}
+use Rattle.float.specs.Root.{rootBelow, wholeRoot, roundRoot, sqrtOf, hypotOf}
+use Rattle.words.specs.Words.{andThen, beyond, readCount, readCoordinate, readPoint, readPoints, readContour, readContours, readGroup, readGroups, readWords, pointsOf, pointsIn}
+use Rattle.row.specs.Row.{addOf, evenlyOf, singleOf, betweenOf, acrossOf, ceilColumn, insideOf, clipOf, spanBy}
+use Rattle.row.specs.Sweep.{shareOf, coveredOf, bytesOf, addBytes}
+use Rattle.edge.specs.Edges.{slopedOf, edgeOf, walkOf, lastOf, contourOf, edgesOf, startingIn, reachingBelow, activeEdges, pieceOf, piecesOf}
+use Rattle.coverage.specs.Drawing.{groupRow, addGroups, rowsFrom}
+use Rattle.laying.specs.Laying.{laidLine}
+use Rattle.path.specs.Verbs.{unpackedOf}
+use Rattle.shape.specs.Checks.{inRangeOf}
+use Rattle.fit.specs.Outline.{verbCheckOf, verbsCheckOf, floatsOf, floatsNeededOf, allInRangeOf, outlineCheckOf}
+use Rattle.fit.specs.Contour.{samePlaceOf, moveOf, drawOf, contourFrom}
+use Rattle.fit.specs.Fit.{reachOf, sizeBelow, crossOf, turnsOf, turnsAtOf, cornersBelow, closeOf, centredOf, spannedOf, cornersBoxOf, parallelogramOf, contourBoxOf, fitOf}
+use Rattle.examples.specs.Starred.{StarredShown, TellsXFromY}
+
+pub starred-shown : StarredShown
+unfolding rowsFrom addGroups groupRow piecesOf pieceOf activeEdges reachingBelow startingIn edgesOf contourOf lastOf walkOf edgeOf slopedOf
+    addBytes bytesOf coveredOf shareOf absOf minOf maxOf clipOf spanBy insideOf ceilColumn acrossOf betweenOf singleOf evenlyOf addOf
+    andThen beyond readCount readCoordinate readPoint readPoints readContour readContours readGroup readGroups readWords pointsOf pointsIn
+    ofBits ofFields odd units round size span climb ofInt add sub sum mul div rem neg lt le eq ne isNan toUnsigned trailingZeros
+    laidLine
+    unpackedOf verbCheckOf verbsCheckOf floatsOf floatsNeededOf inRangeOf allInRangeOf outlineCheckOf samePlaceOf moveOf drawOf contourFrom
+    reachOf sizeBelow crossOf turnsOf turnsAtOf cornersBelow closeOf centredOf spannedOf cornersBoxOf parallelogramOf contourBoxOf fitOf
+    narrowOf rootBelow wholeRoot roundRoot sqrtOf hypotOf
+starred-shown = (
+  (refl, refl, refl, refl),
+  (
+    (refl, refl, refl, refl),
+    (
+      (refl, refl, refl, refl),
+      (
+        (refl, refl, refl, refl),
+        (
+          (refl, refl, refl, refl),
+          (
+            (refl, refl),
+            (
+              (refl, refl),
+              (
+                (refl, refl),
+                (
+                  (refl, refl),
+                  (
+                    (refl, refl),
+                    (refl, (refl, tt)),
+                  ),
+                ),
+              ),
+            ),
+          ),
+        ),
+      ),
+    ),
+  ),
+)
+
+pub tells-x-from-y : TellsXFromY
+unfolding rowsFrom addGroups groupRow piecesOf pieceOf activeEdges reachingBelow startingIn edgesOf contourOf lastOf walkOf edgeOf slopedOf
+    addBytes bytesOf coveredOf shareOf absOf minOf maxOf clipOf spanBy insideOf ceilColumn acrossOf betweenOf singleOf evenlyOf addOf
+    andThen beyond readCount readCoordinate readPoint readPoints readContour readContours readGroup readGroups readWords pointsOf pointsIn
+    ofBits ofFields odd units round size span climb ofInt add sub sum mul div rem neg lt le eq ne isNan toUnsigned trailingZeros
+tells-x-from-y = (refl, refl, refl, refl)

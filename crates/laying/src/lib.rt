@@ -1,0 +1,123 @@
+// One mask laid on another: `intersect` of coverage.rs, below its refusals.
+use coverage::Size;
+ghost use mathlib.Core.Path.{_≡_};
+ghost use Prim.Native.Nat.{_*_, _≤_};
+ghost use lib.ListN.{length};
+ghost use Rattle.laying.specs.Laying.{laidByte, layingOf};
+ghost use Rattle.laying.specs.Lines.{startOf, underOf, lineOf, rowOf};
+
+// Where a mask's corner lies in the other: its cell (column, row) meets (column + x, row + y).
+pub struct Offset {
+    pub x: i32,
+    pub y: i32,
+}
+
+// The first cell of ours and the first of the other's that meet, along a row or down a column.
+struct Start {
+    own: usize,
+    other: usize,
+}
+
+fn first_met(offset: i32) -> Start
+    ensures { λ r. ⌜ r ≡ startOf offset ⌝ }
+{
+    if offset < 0 {
+        return Start {
+            own: (-(offset as i64)) as usize,
+            other: 0,
+        };
+    }
+    Start {
+        own: 0,
+        other: offset as usize,
+    }
+}
+
+fn lay_byte(cell: u8, other: u8) -> u8
+    ensures { λ r. ⌜ r ≡ laidByte cell other ⌝ }
+{
+    (((cell as u32) * (other as u32) + 127) / 255) as u8
+}
+
+// Lays others on as many cells.
+fn lay_cells(cells: &mut [u8], others: &[u8])
+    requires { ⌜ length (now cells) ≤ length (now others) ⌝ }
+    ensures { λ _. ⌜ now (cells .exit) ≡ underOf (now (cells .entry)) (now (others .entry)) ⌝ }
+{
+    let mut i = 0;
+    while i < cells.len() {
+        cells[i] = lay_byte(cells[i], others[i]);
+        i += 1;
+    }
+}
+
+// Lays others on cells from their first on, and clears the cells past the others' last.
+fn lay_front(cells: &mut [u8], others: &[u8])
+    ensures { λ _. ⌜ now (cells .exit) ≡ underOf (now (cells .entry)) (now (others .entry)) ⌝ }
+{
+    let n = others.len();
+    if cells.len() <= n {
+        lay_cells(cells, others);
+        return;
+    }
+    lay_cells(&mut cells[..n], others);
+    coverage::clear_bytes(&mut cells[n..]);
+}
+
+// Lays a row of the other mask on a line, from where they meet.
+fn lay_line(line: &mut [u8], others: &[u8], x: Start)
+    ensures { λ _. ⌜ now (line .exit) ≡ lineOf x (now (line .entry)) (now (others .entry)) ⌝ }
+{
+    let own = x.own;
+    let from = x.other;
+    if line.len() <= own {
+        coverage::clear_bytes(line);
+        return;
+    }
+    if others.len() <= from {
+        coverage::clear_bytes(line);
+        return;
+    }
+    coverage::clear_bytes(&mut line[..own]);
+    lay_front(&mut line[own..], &others[from..]);
+}
+
+// Lays the other mask's row that a row meets on it, and clears a row that meets none.
+fn lay_row(line: &mut [u8], other: &[u8], size: Size, row: usize, x: Start, y: Start)
+    requires { ⌜ (row ≤ 4096) × (size .width ≤ 4096) × (size .height ≤ 4096) × (size .width * size .height ≤ length (now other)) ⌝ }
+    requires { ⌜ y .other ≤ 2147483648 ⌝ }
+    ensures { λ _. ⌜ now (line .exit) ≡ rowOf x y size (now (other .entry)) row (now (line .entry)) ⌝ }
+{
+    if row < y.own {
+        coverage::clear_bytes(line);
+        return;
+    }
+    let met = row - y.own + y.other;
+    if size.height <= met {
+        coverage::clear_bytes(line);
+        return;
+    }
+    let from = met * size.width;
+    let to = from + size.width;
+    lay_line(line, &other[from..to], x);
+}
+
+// Multiplies a mask by the other where they overlap, and clears it elsewhere.
+pub fn lay(mask: &mut [u8], size: Size, other: &[u8], other_size: Size, offset: Offset)
+    requires { ⌜ (size .width ≤ 4096) × (size .height ≤ 4096) × (size .width * size .height ≡ length (now mask)) ⌝ }
+    requires { ⌜ («other_size» .width ≤ 4096) × («other_size» .height ≤ 4096) × («other_size» .width * «other_size» .height ≤ length (now other)) ⌝ }
+    ensures { λ _. ⌜ now (mask .exit) ≡ layingOf size (now (mask .entry)) «other_size» (now (other .entry)) offset ⌝ }
+{
+    let x = first_met(offset.x);
+    let y = first_met(offset.y);
+    let width = size.width;
+    let height = size.height;
+    let mut from = 0;
+    let mut row = 0;
+    while row < height {
+        let to = from + width;
+        lay_row(&mut mask[from..to], other, other_size, row, x, y);
+        from = to;
+        row += 1;
+    }
+}

@@ -1,0 +1,3 @@
+pub mod Walking
+pub mod Laws
+pub mod Steps
