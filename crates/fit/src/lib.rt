@@ -116,11 +116,7 @@ fn outline_check(verbs: &[u8], positions: &[f32]) -> Check
 fn same_place(p: Position, q: Position) -> bool
     ensures { λ r. ⌜ r ≡ samePlaceOf p q ⌝ }
 {
-    let x = p.x;
-    if x == q.x {
-        return p.y == q.y;
-    }
-    false
+    p.x == q.x && p.y == q.y
 }
 
 // What is kept of a contour: its start and last position, how many segments it has, and whether all
@@ -201,12 +197,7 @@ impl Walk {
     fn shut(self) -> bool
         ensures { λ r. ⌜ r ≡ shutOf self ⌝ }
     {
-        let closed = self.closed;
-        let started = self.started;
-        if closed {
-            return true;
-        }
-        !started
+        self.closed || !self.started
     }
 
     // A segment after the walk so far. A line to the last position adds none.
@@ -360,10 +351,7 @@ impl Corners {
         let p1 = self.p1;
         let p2 = self.p2;
         let p3 = self.p3;
-        if Self::close(p0.x + p2.x, p1.x + p3.x, size) {
-            return Self::close(p0.y + p2.y, p1.y + p3.y, size);
-        }
-        false
+        Self::close(p0.x + p2.x, p1.x + p3.x, size) && Self::close(p0.y + p2.y, p1.y + p3.y, size)
     }
 
     fn half_side(p: Position, q: Position) -> Position

@@ -11,6 +11,8 @@ pub struct Position {
 }
 
 // A 2 by 3 matrix, used for linear transformations of the plane.
+// The fields' order is that of `struct beamnettle_box` in include/beamnettle.h. No contract pins it:
+// compare/run tests it with a C program (compare/header).
 #[repr(C)]
 pub struct Transform2D {
     pub a: f32,
@@ -80,10 +82,7 @@ impl Transform2D {
     fn collapsed(det: f64) -> bool
         ensures { λ r. ⌜ r ≡ collapsedOf det ⌝ }
     {
-        if det > -Self::MIN_DETERMINANT {
-            return det < Self::MIN_DETERMINANT;
-        }
-        false
+        det > -Self::MIN_DETERMINANT && det < Self::MIN_DETERMINANT
     }
 
     // Reckoned in f64, each number rounded to f32 at the end; the identity where there is all but no

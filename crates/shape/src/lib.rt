@@ -15,6 +15,8 @@ use geometry::Position;
 use geometry::Transform2D;
 
 // A box with elliptical corners: zero radii make a rectangle, radii equal to the extent an ellipse.
+// The fields' order is that of `struct beamnettle_box` in include/beamnettle.h. No contract pins it:
+// compare/run tests it with a C program (compare/header).
 #[repr(C)]
 pub struct RoundedBox {
     // maps the box, centred on the origin with its sides along the axes, to where its outline lies
@@ -116,10 +118,10 @@ impl MaybeBox {
     pub fn answer(self) -> BoxAnswer
         ensures { λ r. ⌜ r ≡ boxAnswer self ⌝ }
     {
-        match self {
-            MaybeBox::Box(b) => BoxAnswer::Box(b),
-            MaybeBox::NoBox => BoxAnswer::NoBox,
-        }
+        let MaybeBox::Box(b) = self else {
+            return BoxAnswer::NoBox;
+        };
+        BoxAnswer::Box(b)
     }
 }
 
@@ -127,10 +129,10 @@ impl MaybeCoverage {
     fn answer(self) -> CoverageAnswer
         ensures { λ r. ⌜ r ≡ coverageAnswer self ⌝ }
     {
-        match self {
-            MaybeCoverage::Coverage(k) => CoverageAnswer::Coverage(k),
-            MaybeCoverage::NoCoverage => CoverageAnswer::NoCoverage,
-        }
+        let MaybeCoverage::Coverage(k) = self else {
+            return CoverageAnswer::NoCoverage;
+        };
+        CoverageAnswer::Coverage(k)
     }
 }
 
@@ -165,21 +167,13 @@ impl Check {
     fn both_in_range(x: f32, y: f32) -> bool
         ensures { λ r. ⌜ r ≡ bothInRangeOf x y ⌝ }
     {
-        if Self::in_range(x) {
-            return Self::in_range(y);
-        }
-        false
+        Self::in_range(x) && Self::in_range(y)
     }
 
     fn frame_in_range(t: Transform2D) -> bool
         ensures { λ r. ⌜ r ≡ frameInRangeOf t ⌝ }
     {
-        if Self::both_in_range(t.a, t.b) {
-            if Self::both_in_range(t.c, t.d) {
-                return Self::both_in_range(t.x, t.y);
-            }
-        }
-        false
+        Self::both_in_range(t.a, t.b) && Self::both_in_range(t.c, t.d) && Self::both_in_range(t.x, t.y)
     }
 
     // The check of numbers of which `good` tells whether all are in range.
@@ -217,34 +211,22 @@ impl RoundedBox {
         ensures { λ r. ⌜ r ≡ boxInRangeOf self ⌝ }
     {
         let frame = self.frame;
-        if Check::frame_in_range(frame) {
-            if Check::both_in_range(self.ex, self.ey) {
-                return Check::both_in_range(self.rx, self.ry);
-            }
-        }
-        false
+        Check::frame_in_range(frame)
+            && Check::both_in_range(self.ex, self.ey)
+            && Check::both_in_range(self.rx, self.ry)
     }
 
     // Whether a half extent or its radius is below 0, or the radius over the extent.
     fn improper_side(extent: f32, radius: f32) -> bool
         ensures { λ r. ⌜ r ≡ improperSideOf extent radius ⌝ }
     {
-        if extent < 0.0 {
-            return true;
-        }
-        if radius < 0.0 {
-            return true;
-        }
-        extent < radius
+        extent < 0.0 || radius < 0.0 || extent < radius
     }
 
     fn improper(self) -> bool
         ensures { λ r. ⌜ r ≡ improperOf self ⌝ }
     {
-        if Self::improper_side(self.ex, self.rx) {
-            return true;
-        }
-        Self::improper_side(self.ey, self.ry)
+        Self::improper_side(self.ex, self.rx) || Self::improper_side(self.ey, self.ry)
     }
 
     // Document 01's causes for a box: number 1 before number 2.
@@ -295,40 +277,28 @@ impl RoundedBox {
     {
         let determinant = t.a * t.d - t.c * t.b;
         let spans = (t.a * t.a + t.b * t.b) * (t.c * t.c + t.d * t.d);
-        if determinant * determinant > Self::MIN_AXIS_SPREAD * spans {
-            return float::is_finite(spans);
-        }
-        false
+        determinant * determinant > Self::MIN_AXIS_SPREAD * spans && float::is_finite(spans)
     }
 
     // Whether a frame has no coverage, whatever the box: it all but collapses, or there is no fringe.
     fn uncovered(t: Transform2D, fringe: f32) -> bool
         ensures { λ r. ⌜ r ≡ uncoveredOf t fringe ⌝ }
     {
-        if Self::invertible(t) {
-            return fringe <= 0.0;
-        }
-        true
+        !Self::invertible(t) || fringe <= 0.0
     }
 
     // Whether a box is thinner than a pixel.
     fn thin(ex: f32, ey: f32) -> bool
         ensures { λ r. ⌜ r ≡ thinOf ex ey ⌝ }
     {
-        if ex < Self::MIN_HALF_EXTENT {
-            return true;
-        }
-        ey < Self::MIN_HALF_EXTENT
+        ex < Self::MIN_HALF_EXTENT || ey < Self::MIN_HALF_EXTENT
     }
 
     // Whether a corner is too tight to tell from square.
     fn tight(rx: f32, ry: f32) -> bool
         ensures { λ r. ⌜ r ≡ tightOf rx ry ⌝ }
     {
-        if rx < Self::SQUARE_CORNER_BELOW {
-            return true;
-        }
-        ry < Self::SQUARE_CORNER_BELOW
+        rx < Self::SQUARE_CORNER_BELOW || ry < Self::SQUARE_CORNER_BELOW
     }
 
     fn kept_radii(rx: f32, ry: f32) -> Position
@@ -513,10 +483,7 @@ impl RoundedBox {
     fn aligned(along: f32, across: f32, scale: f32) -> bool
         ensures { λ r. ⌜ r ≡ alignedOf along across scale ⌝ }
     {
-        if float::abs(across) <= Self::ALIGNED_SHARE * scale {
-            return float::abs(along) > 0.0;
-        }
-        false
+        float::abs(across) <= Self::ALIGNED_SHARE * scale && float::abs(along) > 0.0
     }
 
     // Whether each axis runs along its own, and whether each runs along the other.
@@ -524,20 +491,14 @@ impl RoundedBox {
         ensures { λ r. ⌜ r ≡ straightOf t ⌝ }
     {
         let scale = Self::scale(t);
-        if Self::aligned(t.a, t.b, scale) {
-            return Self::aligned(t.d, t.c, scale);
-        }
-        false
+        Self::aligned(t.a, t.b, scale) && Self::aligned(t.d, t.c, scale)
     }
 
     fn crossed(t: Transform2D) -> bool
         ensures { λ r. ⌜ r ≡ crossedOf t ⌝ }
     {
         let scale = Self::scale(t);
-        if Self::aligned(t.b, t.a, scale) {
-            return Self::aligned(t.c, t.d, scale);
-        }
-        false
+        Self::aligned(t.b, t.a, scale) && Self::aligned(t.c, t.d, scale)
     }
 
     // This box by the frame t, as it stands, and with its sides changed over.
@@ -613,21 +574,13 @@ impl RoundedBox {
     fn square(self) -> bool
         ensures { λ r. ⌜ r ≡ squareOf self ⌝ }
     {
-        let rx = self.rx;
-        let ry = self.ry;
-        if rx == 0.0 {
-            return ry == 0.0;
-        }
-        false
+        self.rx == 0.0 && self.ry == 0.0
     }
 
     fn both_square(self, other: Self) -> bool
         ensures { λ r. ⌜ r ≡ bothSquareOf self other ⌝ }
     {
-        if self.square() {
-            return other.square();
-        }
-        false
+        self.square() && other.square()
     }
 
     // The nearer of each pair of sides, of this box and of one placed in its frame.
@@ -714,20 +667,14 @@ impl RoundedBox {
     fn covered_by(self, other: Self, s: Sides) -> bool
         ensures { λ r. ⌜ r ≡ coveredOf self other s ⌝ }
     {
-        if other.square() {
-            return s.are(self.own_sides());
-        }
-        false
+        other.square() && s.are(self.own_sides())
     }
 
     // Whether this box is a rect whose sides all lie at or past those of a box placed in its frame.
     fn covers(self, p: Placed, s: Sides) -> bool
         ensures { λ r. ⌜ r ≡ coversOf self p s ⌝ }
     {
-        if self.square() {
-            return s.are(p.sides());
-        }
-        false
+        self.square() && s.are(p.sides())
     }
 
     // Whether this box's outline stays within `slack` of the further of two boxes' edges.
@@ -839,29 +786,18 @@ impl Sides {
     fn apart(self) -> bool
         ensures { λ r. ⌜ r ≡ apartOf self ⌝ }
     {
-        let lowx = self.lowx;
-        let highx = self.highx;
-        if lowx >= highx {
-            return true;
-        }
-        self.lowy >= self.highy
+        self.lowx >= self.highx || self.lowy >= self.highy
     }
 
     fn are(self, other: Self) -> bool
         ensures { λ r. ⌜ r ≡ sidesAreOf self other ⌝ }
     {
-        let lowx = self.lowx;
-        let lowy = self.lowy;
-        let highx = self.highx;
-        if lowx == other.lowx {
-            if lowy == other.lowy {
-                if highx == other.highx {
-                    return self.highy == other.highy;
-                }
-            }
-        }
-        false
+        self.lowx == other.lowx
+            && self.lowy == other.lowy
+            && self.highx == other.highx
+            && self.highy == other.highy
     }
+
     // The sides with each high one no lower than its low one.
     fn raised(self) -> Self
         ensures { λ r. ⌜ r ≡ raisedOf self ⌝ }
@@ -883,14 +819,7 @@ impl ClipCoverage {
     fn off_corner(self, corner: Position) -> bool
         ensures { λ r. ⌜ r ≡ offCornerOf self corner ⌝ }
     {
-        let rx = self.rx;
-        let x = corner.x;
-        if 0.0 < rx {
-            if 0.0 < x {
-                return 0.0 < corner.y;
-            }
-        }
-        false
+        self.rx > 0.0 && corner.x > 0.0 && corner.y > 0.0
     }
 
     fn lean(self, u: Position) -> f32

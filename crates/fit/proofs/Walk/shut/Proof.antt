@@ -9,7 +9,7 @@ returns c = rw (c .if1 .taken)
 
 returns-2 : tie.Need-returns-2
 unfolding shutOf
-returns-2 c = rw (c .if1 .left)
+returns-2 c = rw (c .before .if1 .left)
 
 pub shut-spec : {M : Type 1} → statement M
 shut-spec = tie.close (tie.spec returns returns-2)

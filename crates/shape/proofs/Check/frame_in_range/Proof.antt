@@ -1,5 +1,6 @@
 -- `shape::Check::frame_in_range` meets its contract. Assumes nothing.
 use Rattle.shape.specs.Checks.{frameInRangeOf}
+use mathlib.Core.Logic.{⊎-elim}
 use Rattle.shape.proofs.Check.frame_in_range.Statement.{statement}
 use Rattle.shape.proofs.Check.frame_in_range.Tie as tie
 
@@ -14,23 +15,18 @@ both-in-range-requires-3 c κs = tt
 
 returns : tie.Need-returns
 unfolding frameInRangeOf
-returns c = rw (← c .before .before .before .before .both-in-range .ensures, c .before .before .before .if1 .taken, ← c .before .before .both-in-range2 .ensures, c .before .if2 .taken) (c .both-in-range3 .ensures)
+returns c =
+    let at-if2 = c .before in
+    let at-if1 = at-if2 .before in
+    let at-first = at-if1 .before in
+    ⊎-elim (λ w. rw (← at-first .both-in-range .ensures, w .0 .taken, ← w .1 .ensures, ← w .2, at-if2 .if2 .taken) (c .both-in-range3 .ensures)) (λ w. cc) (at-if1 .if1 .came)
 
 returns-2 : tie.Need-returns-2
 unfolding frameInRangeOf
-returns-2 c = rw (← c .before .before .before .both-in-range .ensures, c .before .before .if1 .taken, ← c .before .both-in-range2 .ensures, c .if2 .left)
-
-returns-3 : tie.Need-returns-3
-unfolding frameInRangeOf
-returns-3 c = rw (← c .before .both-in-range .ensures, c .if1 .left)
+returns-2 c =
+    let at-if1 = c .before in
+    let at-first = at-if1 .before in
+    ⊎-elim (λ w. rw (← at-first .both-in-range .ensures, w .0 .taken, ← w .1 .ensures, ← w .2, c .if2 .left)) (λ w. rw (← at-first .both-in-range .ensures, w .0 .left) (c .if2 .left)) (at-if1 .if1 .came)
 
 pub frame-in-range-spec : {M : Type 1} → statement M
-frame-in-range-spec =
-    tie.close
-    (tie.spec
-    both-in-range-requires
-    both-in-range-requires-2
-    both-in-range-requires-3
-    returns
-    returns-2
-    returns-3)
+frame-in-range-spec = tie.close (tie.spec both-in-range-requires both-in-range-requires-2 both-in-range-requires-3 returns returns-2)

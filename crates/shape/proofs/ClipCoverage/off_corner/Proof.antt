@@ -1,19 +1,16 @@
 -- `shape::ClipCoverage::off_corner` meets its contract. Assumes nothing.
 use Rattle.shape.specs.Coverage.{offCornerOf}
+use mathlib.Core.Logic.{⊎-elim}
 use Rattle.shape.proofs.ClipCoverage.off_corner.Statement.{statement}
 use Rattle.shape.proofs.ClipCoverage.off_corner.Tie as tie
 
 returns : tie.Need-returns
 unfolding offCornerOf
-returns c = rw (c .before .before .if1 .taken, c .before .if2 .taken)
+returns c = ⊎-elim (λ w. rw (w .0 .taken, ← w .2, c .before .if2 .taken)) (λ w. cc) (c .before .before .if1 .came)
 
 returns-2 : tie.Need-returns-2
 unfolding offCornerOf
-returns-2 c = rw (c .before .if1 .taken, c .if2 .left)
-
-returns-3 : tie.Need-returns-3
-unfolding offCornerOf
-returns-3 c = rw (c .if1 .left)
+returns-2 c = ⊎-elim (λ w. rw (w .0 .taken, ← w .2, c .if2 .left)) (λ w. rw (w .0 .left) (c .if2 .left)) (c .before .if1 .came)
 
 pub off-corner-spec : {M : Type 1} → statement M
-off-corner-spec = tie.close (tie.spec returns returns-2 returns-3)
+off-corner-spec = tie.close (tie.spec returns returns-2)

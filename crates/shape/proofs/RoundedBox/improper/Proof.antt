@@ -6,12 +6,12 @@ use Rattle.shape.proofs.RoundedBox.improper.Tie as tie
 improper-side-requires : tie.Need-improper-side-requires
 improper-side-requires c κs = tt
 
+improper-side-requires-2 : tie.Need-improper-side-requires-2
+improper-side-requires-2 c κs = tt
+
 returns : tie.Need-returns
 unfolding improperOf
 returns c = rw (← c .before .improper-side .ensures, c .if1 .taken)
-
-improper-side-requires-2 : tie.Need-improper-side-requires-2
-improper-side-requires-2 c κs = tt
 
 returns-2 : tie.Need-returns-2
 unfolding improperOf
@@ -19,4 +19,4 @@ returns-2 c = rw (← c .before .before .improper-side .ensures, c .before .if1 
 
 pub improper-spec : {M : Type 1} → statement M
 improper-spec =
-    tie.close (tie.spec improper-side-requires returns improper-side-requires-2 returns-2)
+    tie.close (tie.spec improper-side-requires improper-side-requires-2 returns returns-2)

@@ -5,7 +5,7 @@ use Rattle.shape.proofs.RoundedBox.square.Tie as tie
 
 returns : tie.Need-returns
 unfolding squareOf
-returns c = rw (c .if1 .taken)
+returns c = rw (c .before .if1 .taken)
 
 returns-2 : tie.Need-returns-2
 unfolding squareOf

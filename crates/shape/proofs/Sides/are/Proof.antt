@@ -1,23 +1,29 @@
 -- `shape::Sides::are` meets its contract. Assumes nothing.
 use Rattle.shape.specs.Beside.{sidesAreOf}
+use mathlib.Core.Logic.{⊎-elim}
 use Rattle.shape.proofs.Sides.are.Statement.{statement}
 use Rattle.shape.proofs.Sides.are.Tie as tie
 
 returns : tie.Need-returns
 unfolding sidesAreOf
-returns c = rw (c .before .before .before .before .before .before .if1 .taken, c .before .before .before .before .if2 .taken, c .before .before .if3 .taken)
+returns c =
+    let at-if3 = c .before .before in
+    let at-if2 = at-if3 .before in
+    let at-if1 = at-if2 .before in
+    ⊎-elim
+    (λ v. ⊎-elim (λ w. rw (w .0 .taken, ← w .3, v .0 .taken, ← v .3, at-if3 .if3 .taken)) (λ w. cc) (at-if1 .if1 .came))
+    (λ v. cc)
+    (at-if2 .if2 .came)
 
 returns-2 : tie.Need-returns-2
 unfolding sidesAreOf
-returns-2 c = rw (c .before .before .before .before .if1 .taken, c .before .before .if2 .taken, c .if3 .left)
-
-returns-3 : tie.Need-returns-3
-unfolding sidesAreOf
-returns-3 c = rw (c .before .before .if1 .taken, c .if2 .left)
-
-returns-4 : tie.Need-returns-4
-unfolding sidesAreOf
-returns-4 c = rw (c .if1 .left)
+returns-2 c =
+    let at-if2 = c .before in
+    let at-if1 = at-if2 .before in
+    ⊎-elim
+    (λ w. ⊎-elim (λ v. rw (w .0 .taken, ← w .3, v .0 .taken, ← v .3, c .if3 .left)) (λ v. rw (w .0 .taken, ← w .3, v .0 .left) (c .if3 .left)) (at-if2 .if2 .came))
+    (λ w. rw (w .0 .left) (c .if3 .left))
+    (at-if1 .if1 .came)
 
 pub are-spec : {M : Type 1} → statement M
-are-spec = tie.close (tie.spec returns returns-2 returns-3 returns-4)
+are-spec = tie.close (tie.spec returns returns-2)
