@@ -389,16 +389,16 @@ impl Corners {
     fn parallelogram(self, size: f32) -> MaybeBox
         ensures { λ r. ⌜ r ≡ cornersBoxOf self size ⌝ }
     {
+        if !self.centred(size) {
+            return MaybeBox::NoBox;
+        }
         let p0 = self.p0;
         let p1 = self.p1;
         let p2 = self.p2;
         let p3 = self.p3;
-        if self.centred(size) {
-            let u = Self::half_side(p0, p1);
-            let v = Self::half_side(p0, p3);
-            return MaybeBox::Box(Self::spanned(u, v, p0, p2));
-        }
-        MaybeBox::NoBox
+        let u = Self::half_side(p0, p1);
+        let v = Self::half_side(p0, p3);
+        MaybeBox::Box(Self::spanned(u, v, p0, p2))
     }
 }
 
@@ -465,14 +465,14 @@ fn parallelogram(start: Position, xs: &[f32; 257], ys: &[f32; 257], n: usize) ->
     let mut cx = [0.0f32; 257];
     let mut cy = [0.0f32; 257];
     let m = turning_points(xs, ys, n, size, &mut cx, &mut cy);
-    if m == 4 {
-        let p0 = Position { x: cx[0], y: cy[0] };
-        let p1 = Position { x: cx[1], y: cy[1] };
-        let p2 = Position { x: cx[2], y: cy[2] };
-        let p3 = Position { x: cx[3], y: cy[3] };
-        return Corners { p0, p1, p2, p3 }.parallelogram(size);
+    if m != 4 {
+        return MaybeBox::NoBox;
     }
-    MaybeBox::NoBox
+    let p0 = Position { x: cx[0], y: cy[0] };
+    let p1 = Position { x: cx[1], y: cy[1] };
+    let p2 = Position { x: cx[2], y: cy[2] };
+    let p3 = Position { x: cx[3], y: cy[3] };
+    Corners { p0, p1, p2, p3 }.parallelogram(size)
 }
 
 // ---- fit
@@ -482,8 +482,12 @@ fn closed(walk: Walk, xs: &[f32; 257], ys: &[f32; 257]) -> MaybeBox
     requires { ⌜ walk .count ≤ 256 ⌝ }
     ensures { λ r. ⌜ ((k : Contour) → Ended (reached k) (Step.Go walk) (now (xs .entry)) (now (ys .entry)) → r ≡ contourBoxOf k) ⌝ }
 {
-    let started = walk.started;
-    let straight = walk.straight;
+    if !walk.started {
+        return MaybeBox::NoBox;
+    }
+    if !walk.straight {
+        return MaybeBox::NoBox;
+    }
     let n = walk.count;
     let start = Position {
         x: walk.sx,
@@ -493,18 +497,13 @@ fn closed(walk: Walk, xs: &[f32; 257], ys: &[f32; 257]) -> MaybeBox
         x: walk.lx,
         y: walk.ly,
     };
-    if started {
-        if straight {
-            if same_place(last, start) {
-                if n == 0 {
-                    return MaybeBox::NoBox;
-                }
-                return parallelogram(start, xs, ys, n);
-            }
-            return parallelogram(start, xs, ys, n + 1);
+    if same_place(last, start) {
+        if n == 0 {
+            return MaybeBox::NoBox;
         }
+        return parallelogram(start, xs, ys, n);
     }
-    MaybeBox::NoBox
+    parallelogram(start, xs, ys, n + 1)
 }
 
 fn fit_unchecked(verbs: &[u8], positions: &[f32]) -> MaybeBox

@@ -11,8 +11,8 @@ pub struct Position {
 }
 
 // A 2 by 3 matrix, used for linear transformations of the plane.
-// The fields' order is that of `struct beamnettle_box` in include/beamnettle.h. No contract pins it:
-// compare/run tests it with a C program (compare/header).
+// The fields' order is that of the first six of `struct beamnettle_box` in include/beamnettle.h. No
+// contract pins it: compare/run tests it with a C program (compare/header).
 #[repr(C)]
 pub struct Transform2D {
     pub a: f32,

@@ -173,7 +173,9 @@ impl Check {
     fn frame_in_range(t: Transform2D) -> bool
         ensures { λ r. ⌜ r ≡ frameInRangeOf t ⌝ }
     {
-        Self::both_in_range(t.a, t.b) && Self::both_in_range(t.c, t.d) && Self::both_in_range(t.x, t.y)
+        Self::both_in_range(t.a, t.b)
+            && Self::both_in_range(t.c, t.d)
+            && Self::both_in_range(t.x, t.y)
     }
 
     // The check of numbers of which `good` tells whether all are in range.
@@ -614,13 +616,13 @@ impl RoundedBox {
     fn rect_intersection_unchecked(self, other: Self) -> MaybeBox
         ensures { λ r. ⌜ r ≡ rectIntersectionOf self other ⌝ }
     {
-        if self.both_square(other) {
-            let Alongside::Placed(p) = self.alongside(other) else {
-                return MaybeBox::NoBox;
-            };
-            return MaybeBox::Box(self.between(self.sides(p).raised()));
+        if !self.both_square(other) {
+            return MaybeBox::NoBox;
         }
-        MaybeBox::NoBox
+        let Alongside::Placed(p) = self.alongside(other) else {
+            return MaybeBox::NoBox;
+        };
+        MaybeBox::Box(self.between(self.sides(p).raised()))
     }
 
     // What two boxes with square corners and parallel sides both cover, exactly: a box with no extent

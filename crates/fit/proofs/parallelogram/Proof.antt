@@ -14,6 +14,10 @@ size-requires c κs = c .pre
 turning-points-requires : tie.Need-turning-points-requires
 turning-points-requires c κs = (c .before .before .before .pre, (refl, refl))
 
+returns : tie.Need-returns
+unfolding parallelogramOf
+returns c = rw (← c .before .before .before .before .size .ensures, ← c .before .turning-points .ensures .corners) (not-four (pointsIn (c .before .turning-points .last .1 .1 .1 .1 .0) (c .before .turning-points .last .1 .1 .1 .1 .1 .0) (c .before .turning-points .result)) (c .before .before .before .before .size .result) (λ e. c .if1 .taken (sym (points-length (c .before .turning-points .last .1 .1 .1 .1 .0) (c .before .turning-points .last .1 .1 .1 .1 .1 .0) (c .before .turning-points .result)) ∙ e)))
+
 array-read-t18 : tie.Need-array-read-t18
 array-read-t18 c = search needs
 
@@ -41,13 +45,9 @@ array-read-t21-4 c = search needs
 parallelogram-requires : tie.Need-parallelogram-requires
 parallelogram-requires c κs = tt
 
-returns : tie.Need-returns
-unfolding parallelogramOf pointsIn
-returns c = rw (← c .before .before .before .before .before .size .ensures, ← c .before .before .turning-points .ensures .corners, c .before .if1 .taken) (c .parallelogram .ensures)
-
 returns-2 : tie.Need-returns-2
-unfolding parallelogramOf
-returns-2 c = rw (← c .before .before .before .before .size .ensures, ← c .before .turning-points .ensures .corners) (not-four (pointsIn (c .before .turning-points .last .1 .1 .1 .1 .0) (c .before .turning-points .last .1 .1 .1 .1 .1 .0) (c .before .turning-points .result)) (c .before .before .before .before .size .result) (λ e. c .if1 .left (sym (points-length (c .before .turning-points .last .1 .1 .1 .1 .0) (c .before .turning-points .last .1 .1 .1 .1 .1 .0) (c .before .turning-points .result)) ∙ e)))
+unfolding parallelogramOf pointsIn
+returns-2 c = rw (← c .before .before .before .before .before .size .ensures, ← c .before .before .turning-points .ensures .corners, c .before .if1 .left) (c .parallelogram .ensures)
 
 pub parallelogram-spec : {M : Type 1} → statement M
 parallelogram-spec =
@@ -55,6 +55,7 @@ parallelogram-spec =
     (tie.spec
     size-requires
     turning-points-requires
+    returns
     array-read-t18
     array-read-t21
     array-read-t18-2
@@ -64,5 +65,4 @@ parallelogram-spec =
     array-read-t18-4
     array-read-t21-4
     parallelogram-requires
-    returns
     returns-2)

@@ -1,10 +1,15 @@
 -- `fit::Corners::parallelogram` meets its contract. Assumes nothing.
 use Rattle.fit.specs.Fit.{cornersBoxOf}
+use borrow.Author.Tests.{not-true, not-false}
 use Rattle.fit.proofs.Corners.parallelogram.Statement.{statement}
 use Rattle.fit.proofs.Corners.parallelogram.Tie as tie
 
 centred-requires : tie.Need-centred-requires
 centred-requires c κs = tt
+
+returns : tie.Need-returns
+unfolding cornersBoxOf
+returns c = rw (← c .before .centred .ensures, not-true (c .before .centred .result) (c .if1 .taken))
 
 half-side-requires : tie.Need-half-side-requires
 half-side-requires c κs = tt
@@ -15,21 +20,22 @@ half-side-requires-2 c κs = tt
 spanned-requires : tie.Need-spanned-requires
 spanned-requires c κs = tt
 
-returns : tie.Need-returns
-unfolding cornersBoxOf
-returns c = rw (← c .before .before .before .before .centred .ensures, c .before .before .before .if1 .taken, c .spanned .ensures, c .before .before .half-side .ensures, c .before .half-side2 .ensures)
-
 returns-2 : tie.Need-returns-2
 unfolding cornersBoxOf
-returns-2 c = rw (← c .before .centred .ensures, c .if1 .left)
+returns-2 c =
+    let at-half-side2 = c .before in
+    let at-half-side = at-half-side2 .before in
+    let at-if1 = at-half-side .before .before .before .before .before in
+    let at-centred = at-if1 .before in
+    rw (← at-centred .centred .ensures, not-false (at-centred .centred .result) (at-if1 .if1 .left), c .spanned .ensures, at-half-side .half-side .ensures, at-half-side2 .half-side2 .ensures)
 
 pub parallelogram-spec : {M : Type 1} → statement M
 parallelogram-spec =
     tie.close
     (tie.spec
     centred-requires
+    returns
     half-side-requires
     half-side-requires-2
     spanned-requires
-    returns
     returns-2)
