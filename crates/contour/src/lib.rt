@@ -5,23 +5,49 @@ ghost use mathlib.Core.Path.{_≡_};
 ghost use mathlib.Core.Bool.{false};
 ghost use mathlib.Core.List.{[]};
 ghost use Prim.Native.Nat.{_+_, _*_, _≤_, _<_};
-ghost use lib.IntN.{pos};
+ghost use lib.IntN.{ℤ, pos};
 ghost use lib.ListN.{length, getD, drop};
 ghost use Rattle.words.specs.Words.{beyond, readPoints, readContours, readOr, pointsOf};
 ghost use Rattle.words.specs.Scan.{Fine, endOf};
+ghost use Rattle.words.specs.declared.Word.the-variants.{Value};
 ghost use Rattle.edge.specs.Edges.{coordinateOf, contourOf, edgesOf};
 ghost use Rattle.edge.specs.Stored.{Pushed};
 
-// The coordinate word at a place, in cells.
-fn coordinate_at(words: &[i32], at: usize) -> f32
-    requires { ⌜ at < length (now words) ⌝ }
-    requires { ⌜ beyond (getD (now words) at (pos 0)) ≡ false ⌝ }
-    ensures { λ r. ⌜ r ≡ coordinateOf (getD (now (words .entry)) at (pos 0)) ⌝ }
-{
-    let Word::Value(word) = words::word_at(words, at) else {
-        return 0.0;
-    };
-    (word as f32) / 256.0
+// A point of a contour, in cells.
+struct Point {
+    x: f32,
+    y: f32,
+}
+
+impl Point {
+    // SUBPIXELS of coverage.rs: how many steps of a coordinate make a cell.
+    const SUBPIXELS: f32 = 256.0;
+
+    // A coordinate word, in cells.
+    fn coordinate(word: Word) -> f32
+        requires { ⌜ ((w : ℤ) → word ≡ Value w → beyond w ≡ false) ⌝ }
+        ensures { λ r. ⌜ ((w : ℤ) → word ≡ Value w → r ≡ coordinateOf w) ⌝ }
+    {
+        let Word::Value(x) = word else {
+            return 0.0;
+        };
+        (x as f32) / Self::SUBPIXELS
+    }
+
+    // The point whose words stand at a place.
+    fn at(words: &[i32], at: usize) -> Point
+        requires { ⌜ at + 1 < length (now words) ⌝ }
+        requires { ⌜ (beyond (getD (now words) at (pos 0)) ≡ false) × (beyond (getD (now words) (at + 1) (pos 0)) ≡ false) ⌝ }
+        ensures { λ r. ⌜ (r .x ≡ coordinateOf (getD (now (words .entry)) at (pos 0))) × (r .y ≡ coordinateOf (getD (now (words .entry)) (at + 1) (pos 0))) ⌝ }
+    {
+        let pair = words::pair_at(words, at);
+        let x = pair.first;
+        let y = pair.second;
+        Point {
+            x: Self::coordinate(x),
+            y: Self::coordinate(y),
+        }
+    }
 }
 
 // Stores the edges of a closed contour of n points, whose words start at `at`, behind `stored`
@@ -43,16 +69,17 @@ fn contour(
         return stored;
     }
     let end = at + 2 * n;
-    let mut x = coordinate_at(words, end - 2);
-    let mut y = coordinate_at(words, end - 1);
+    let last = end - 2;
+    let from = Point::at(words, last);
+    let mut x = from.x;
+    let mut y = from.y;
     let mut count = stored;
     let mut next = at;
     while next < end {
-        let to_x = coordinate_at(words, next);
-        let to_y = coordinate_at(words, next + 1);
-        count = edge::push(floats, edges, count, x, y, to_x, to_y, height);
-        x = to_x;
-        y = to_y;
+        let to = Point::at(words, next);
+        count = edge::push(floats, edges, count, x, y, to.x, to.y, height);
+        x = to.x;
+        y = to.y;
         next += 2;
     }
     count

@@ -16,6 +16,11 @@ pub struct Size {
     pub height: usize,
 }
 
+impl Size {
+    // The most cells that a mask may have across or down.
+    pub const MOST_CELLS: usize = 4096;
+}
+
 // ---- lent buffers, cleared
 
 pub fn clear_bytes(bytes: &mut [u8])

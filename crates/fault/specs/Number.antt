@@ -1,5 +1,6 @@
--- Document 01, 'What a call hands back': the number of each cause. Definitions only.
-use Prim.Native.Nat.{ℕ}
+-- Document 01, 'What a call hands back': the number of each cause. `CauseNumbers` is proved in proofs/Numbers.antt.
+use mathlib.Core.Path.{_≡_}
+use Prim.Native.Nat.{ℕ, _≤_}
 use Rattle.fault.specs.declared.Fault.{Fault}
 use Rattle.fault.specs.declared.Fault.the-variants.{
   NumberOutOfRange,
@@ -29,3 +30,9 @@ numberOf PositionsMismatch = 9
 numberOf CurveVerb = 10
 numberOf TooManyVerbs = 11
 numberOf TooManyBoxes = 12
+
+-- Each cause has a number of its own, from 1 to 31. 0 and the numbers past 31 are left for what a done call answers
+pub record CauseNumbers : Type 0 where
+  pub least : (f : Fault) → 1 ≤ numberOf f
+  pub most : (f : Fault) → numberOf f ≤ 31
+  pub apart : (f g : Fault) → numberOf f ≡ numberOf g → f ≡ g

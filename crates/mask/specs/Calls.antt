@@ -7,6 +7,7 @@ use lib.IntN.{ℤ}
 use lib.ListN.{length, drop, replicate}
 use lib.Ieee.{Float}
 use Rattle.fault.specs.declared.Fault.the-variants.{MaskTooLarge, BufferTooShort}
+use Rattle.fault.specs.Number.{numberOf}
 use Rattle.float.specs.Ops.{f0}
 use Rattle.words.specs.Words.{Group, pointsIn, Read, ok, fault, readWords, groupsOf}
 use Rattle.coverage.specs.declared.Size.{Size}
@@ -15,6 +16,11 @@ use Rattle.laying.specs.declared.Offset.{Offset}
 use Rattle.laying.specs.Laying.{layingOf}
 use Rattle.mask.specs.declared.Outcome.{Outcome}
 use Rattle.mask.specs.declared.Outcome.the-variants.{Done, Refused}
+
+-- ---- 'What a call hands back': the number of an answer. 'A call is done, or turned away by number'; done is told from every cause by 0
+abbrev pub outcomeNumber : Outcome → ℕ
+outcomeNumber Done = 0
+outcomeNumber (Refused f) = numberOf f
 
 -- ---- the table and its order, from the arguments and the lengths of what is lent
 
@@ -38,6 +44,10 @@ pub record Lent : Type 0 where
   pub mask : ℕ
   pub floats : ℕ
   pub counters : ℕ
+
+-- the lengths of what is lent
+abbrev pub lentTo : List ℕ → List Float → List ℕ → Lent
+lentTo mask floats counters = record { mask = length mask; floats = length floats; counters = length counters }
 
 -- 'Order when drawing: 3, then 4 for the mask, then the list from its first word (5, 6 or 7 at the first word at fault; ..), then 4 for scratch.'
 abbrev pub listAnswer : Size → Lent → Read (List Group) → Outcome

@@ -1,4 +1,4 @@
--- What document 01 says of drawings and of laying on as a whole, stated of the definitions in Calls.antt. Proved in proofs/Laws.antt, Causes.antt and LayCauses.antt.
+-- What document 01 says of drawings and of laying on as a whole, stated of the definitions in Calls.antt. Proved in proofs/Laws.antt, Causes.antt, LayCauses.antt and Numbers.antt.
 use mathlib.Core.Path.{_≡_}
 use mathlib.Core.Logic.{_⊎_}
 use mathlib.Core.List.{List}
@@ -6,11 +6,14 @@ use Prim.Native.Nat.{ℕ, _≤_, _<_}
 use lib.IntN.{ℤ}
 use lib.ListN.{length, take}
 use Rattle.fault.specs.declared.Fault.{Fault}
+use Rattle.fault.specs.Number.{numberOf}
 use Rattle.fault.specs.declared.Fault.the-variants.{MaskTooLarge, BufferTooShort, ListEndsEarly, CountOutOfRange, CoordinateOutOfRange}
-use Rattle.words.specs.Words.{Group, ok, fault, readWords}
+use Rattle.words.specs.Words.{Group, fault, readWords}
 use Rattle.words.specs.Writer.{wordsOf, Allowed}
+use Rattle.list_fault.specs.ListFault.{FaultOf}
 use Rattle.coverage.specs.declared.Size.{Size}
-use Rattle.mask.specs.Calls.{cellsOf, floatsNeeded, countersNeeded, Lent, drawAnswer, maskAfterDrawing, layAnswer}
+use Rattle.mask.specs.Calls.{cellsOf, floatsNeeded, countersNeeded, Lent, outcomeNumber, drawAnswer, maskAfterDrawing, layAnswer}
+use Rattle.mask.specs.declared.Outcome.{Outcome}
 use Rattle.mask.specs.declared.Outcome.the-variants.{Done, Refused}
 
 -- what a drawing asks for: none of the causes 3 to 7 of document 01's table. Said without the reading: the list is the writing of allowed groups
@@ -30,23 +33,21 @@ pub record DoneExactlyWhen : Type 0 where
   pub always : (size : Size) (words : List ℤ) (lent : Lent) → CanDraw size words lent → drawAnswer size words lent ≡ Done
 
 -- Why a drawing is refused with a fault, in document 01's order: 'Order when drawing: 3, then 4 for the mask, then the list from its first word (5, 6 or 7 ..), then 4 for scratch.'
--- Each cause is given with none before it
+-- Each cause is given with none before it. The fault of a list is said without the reading (list_fault/specs/ListFault.antt)
 abbrev pub TooLarge : Size → Type 0
 TooLarge size = (4096 < size .width) ⊎ (4096 < size .height)
 
 abbrev pub SizeAllowed : Size → Type 0
 SizeAllowed size = (size .width ≤ 4096) × (size .height ≤ 4096)
 
-abbrev pub ScratchShort : Size → List ℤ → Lent → Type 0
-ScratchShort size words lent =
-    (gs : List Group) × (rest : List ℤ) × (readWords words ≡ ok gs rest) × ((lent .floats < floatsNeeded size gs) ⊎ (lent .counters < countersNeeded size))
+abbrev pub ScratchShort : Size → List Group → Lent → Type 0
+ScratchShort size gs lent = (lent .floats < floatsNeeded size gs) ⊎ (lent .counters < countersNeeded size)
 
-abbrev pub FirstCause : Size → List ℤ → Lent → Fault → Type 0
-FirstCause size words lent f =
-    (TooLarge size × (f ≡ MaskTooLarge))
-    ⊎ ((SizeAllowed size × (lent .mask < cellsOf size) × (f ≡ BufferTooShort))
-    ⊎ ((SizeAllowed size × (cellsOf size ≤ lent .mask) × (readWords words ≡ fault f))
-    ⊎ (SizeAllowed size × (cellsOf size ≤ lent .mask) × ScratchShort size words lent × (f ≡ BufferTooShort))))
+pub data FirstCause (size : Size) (words : List ℤ) (lent : Lent) : Fault → Type 0 where
+  too-large : TooLarge size → FirstCause size words lent MaskTooLarge
+  mask-short : SizeAllowed size → lent .mask < cellsOf size → FirstCause size words lent BufferTooShort
+  list-fault : {f : Fault} → SizeAllowed size → cellsOf size ≤ lent .mask → FaultOf words f → FirstCause size words lent f
+  scratch-short : SizeAllowed size → cellsOf size ≤ lent .mask → (gs : List Group) → Allowed gs → words ≡ wordsOf gs → ScratchShort size gs lent → FirstCause size words lent BufferTooShort
 
 -- a drawing is refused with a fault exactly when that is its first cause
 pub record RefusedExactlyWhen : Type 0 where
@@ -79,3 +80,20 @@ pub record LaidExactlyWhen : Type 0 where
   pub done-always : (size otherSize : Size) (mask other : ℕ) → CanLay size otherSize mask other → layAnswer size otherSize mask other ≡ Done
   pub refused-only : (size otherSize : Size) (mask other : ℕ) (f : Fault) → layAnswer size otherSize mask other ≡ Refused f → FirstLayCause size otherSize mask other f
   pub refused-always : (size otherSize : Size) (mask other : ℕ) (f : Fault) → FirstLayCause size otherSize mask other f → layAnswer size otherSize mask other ≡ Refused f
+
+-- ---- the same in document 01's numbers ('Where an answer is an enum, the promises use a definition that gives this paper's number'): 0 where the call can be done, else that of its first cause
+pub data DrawNumber (size : Size) (words : List ℤ) (lent : Lent) : ℕ → Type 0 where
+  drawn : CanDraw size words lent → DrawNumber size words lent 0
+  not-drawn : {f : Fault} → FirstCause size words lent f → DrawNumber size words lent (numberOf f)
+
+pub data LayNumber (size otherSize : Size) (mask other : ℕ) : ℕ → Type 0 where
+  laid : CanLay size otherSize mask other → LayNumber size otherSize mask other 0
+  not-laid : {f : Fault} → FirstLayCause size otherSize mask other f → LayNumber size otherSize mask other (numberOf f)
+
+-- each call has one number alone, and it tells the answer
+pub record NumbersExactlyWhen : Type 0 where
+  pub draw-only : (size : Size) (words : List ℤ) (lent : Lent) → DrawNumber size words lent (outcomeNumber (drawAnswer size words lent))
+  pub draw-always : (size : Size) (words : List ℤ) (lent : Lent) (n : ℕ) → DrawNumber size words lent n → outcomeNumber (drawAnswer size words lent) ≡ n
+  pub lay-only : (size otherSize : Size) (mask other : ℕ) → LayNumber size otherSize mask other (outcomeNumber (layAnswer size otherSize mask other))
+  pub lay-always : (size otherSize : Size) (mask other n : ℕ) → LayNumber size otherSize mask other n → outcomeNumber (layAnswer size otherSize mask other) ≡ n
+  pub told-apart : (o p : Outcome) → outcomeNumber o ≡ outcomeNumber p → o ≡ p

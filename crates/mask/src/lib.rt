@@ -13,10 +13,8 @@ ghost use Rattle.words.specs.Words.{readGroup, readWords, readOr, groupsOf, poi
 ghost use Rattle.words.specs.Scan.{groupPoints, Fine, endOf, noGroup};
 ghost use Rattle.coverage.specs.Drawing.{groupRow, drawingOf};
 ghost use Rattle.coverage.specs.Resolving.{Room, Clean, rowsAdded};
-ghost use Rattle.mask.specs.Calls.{cellsOf, tooLarge, listAnswer, drawAnswer, maskAfterDrawing, floatsAfterDrawing, countersAfterDrawing, layAnswer, maskAfterLaying};
-
-// The most cells that a mask may have across or down.
-pub const MOST_CELLS: usize = 4096;
+ghost use Rattle.mask.specs.Calls.{lentTo, outcomeNumber, cellsOf, tooLarge, listAnswer, drawAnswer, maskAfterDrawing, floatsAfterDrawing, countersAfterDrawing, layAnswer, maskAfterLaying};
+ghost use Rattle.mask.specs.Laws.{DrawNumber, LayNumber};
 
 // What a call answers: it is done, or turned away for a cause of document 01's table.
 pub enum Outcome {
@@ -27,10 +25,7 @@ pub enum Outcome {
 fn is_too_large(size: Size) -> bool
     ensures { λ r. ⌜ r ≡ tooLarge size ⌝ }
 {
-    if MOST_CELLS < size.width {
-        return true;
-    }
-    MOST_CELLS < size.height
+    Size::MOST_CELLS < size.width || Size::MOST_CELLS < size.height
 }
 
 // Adds the group whose words start at `at`. Returns where the next starts.
@@ -52,7 +47,9 @@ fn draw_group(
     ensures { λ r. ⌜ r ≡ endOf (length (now (words .entry))) (readGroup 0 (drop at (now (words .entry)))) ⌝ }
     ensures { λ _. ⌜ Clean (now (floats .exit)) (now (counters .exit)) (size .width) (size .height) ⌝ }
 {
-    let Counted::Count(n) = words::count_at(words, at + 1) else {
+    let head = words::head_at(words, at);
+    let contours = head.contours;
+    let Counted::Count(n) = contours else {
         return at;
     };
     let stored = contour::contours(words, at + 2, n, floats, size.width, size.height);
@@ -63,7 +60,7 @@ fn draw_group(
         size,
         points,
         stored.count,
-        words::is_even_odd_at(words, at),
+        head.even_odd,
     );
     stored.at
 }
@@ -127,7 +124,7 @@ fn draw_in(
     requires { ⌜ (size .width ≤ 4096) × (size .height ≤ 4096) × (cellsOf size ≤ length (now mask)) ⌝ }
     requires { ⌜ Fine (readWords (now words)) ⌝ }
     requires { ⌜ (points ≡ pointsIn (groupsOf (now words))) × (points ≤ 2048) ⌝ }
-    ensures { λ r. ⌜ r ≡ listAnswer size (record { mask = length (now (mask .entry)); floats = length (now (floats .entry)); counters = length (now (counters .entry)) }) (readWords (now (words .entry))) ⌝ }
+    ensures { λ r. ⌜ r ≡ listAnswer size (lentTo (now (mask .entry)) (now (floats .entry)) (now (counters .entry))) (readWords (now (words .entry))) ⌝ }
     ensures { λ r. ⌜ now (mask .exit) ≡ maskAfterDrawing r size (now (words .entry)) (now (mask .entry)) ⌝ }
     ensures { λ r. ⌜ now (floats .exit) ≡ floatsAfterDrawing r (now (floats .entry)) ⌝ }
     ensures { λ r. ⌜ now (counters .exit) ≡ countersAfterDrawing r (now (counters .entry)) ⌝ }
@@ -153,10 +150,11 @@ pub fn rasterize_into(
     floats: &mut [f32],
     counters: &mut [u64],
 ) -> Outcome
-    ensures answer { λ r. ⌜ r ≡ drawAnswer size (now (words .entry)) (record { mask = length (now (mask .entry)); floats = length (now (floats .entry)); counters = length (now (counters .entry)) }) ⌝ }
+    ensures answer { λ r. ⌜ r ≡ drawAnswer size (now (words .entry)) (lentTo (now (mask .entry)) (now (floats .entry)) (now (counters .entry))) ⌝ }
     ensures cells { λ r. ⌜ now (mask .exit) ≡ maskAfterDrawing r size (now (words .entry)) (now (mask .entry)) ⌝ }
     ensures floats { λ r. ⌜ now (floats .exit) ≡ floatsAfterDrawing r (now (floats .entry)) ⌝ }
     ensures counters { λ r. ⌜ now (counters .exit) ≡ countersAfterDrawing r (now (counters .entry)) ⌝ }
+    ensures number { λ r. ⌜ DrawNumber size (now (words .entry)) (lentTo (now (mask .entry)) (now (floats .entry)) (now (counters .entry))) (outcomeNumber r) ⌝ }
 {
     if is_too_large(size) {
         return Outcome::Refused(Fault::MaskTooLarge);
@@ -181,6 +179,7 @@ pub fn intersect(
 ) -> Outcome
     ensures answer { λ r. ⌜ r ≡ layAnswer size «other_size» (length (now (mask .entry))) (length (now (other .entry))) ⌝ }
     ensures cells { λ r. ⌜ now (mask .exit) ≡ maskAfterLaying r size «other_size» offset (now (mask .entry)) (now (other .entry)) ⌝ }
+    ensures number { λ r. ⌜ LayNumber size «other_size» (length (now (mask .entry))) (length (now (other .entry))) (outcomeNumber r) ⌝ }
 {
     if is_too_large(size) {
         return Outcome::Refused(Fault::MaskTooLarge);

@@ -1,15 +1,21 @@
--- What a word reader finds ahead: a word of the list, or its end; and moving on. Assumes nothing.
+-- What a word reader finds ahead: a word of the list, or its end; moving on; and what a word says by itself. Assumes nothing.
 use mathlib.Core.Path.{_≡_, refl, sym, _∙_}
-use mathlib.Core.Bool.{Bool, true, false}
-use mathlib.Core.List.{List}
-use Prim.Native.Nat.{ℕ, _+_, _-_, _≤_, _<_}
+use mathlib.Core.Bool.{Bool, true, false, true≢false}
+use mathlib.Core.List.{List, [], _∷_}
+use Prim.Native.Nat.{ℕ, _+_, _≤_, _<_}
 use native.Mathlib.Omega.{arith}
 use lib.Dec.{ltb}
-use lib.IntN.{ℤ, pos}
+use lib.IntN.{ℤ, pos, negsuc, natAbs}
 use lib.ListN.{length, getD, drop}
-use lib.Seq.{drop-nil, drop-drop}
+use lib.Signed.{ltZ}
 use borrow.Author.Tests.{ltb-true, ltb-false}
-use Rattle.words.specs.Reader.{wordOf}
+use Rattle.fault.specs.declared.Fault.the-variants.{ListEndsEarly, CountOutOfRange, CoordinateOutOfRange}
+use Rattle.words.specs.Words.{beyond, readCount, readCoordinate}
+use Rattle.words.specs.Scan.{countedOf, checkedOf}
+use Rattle.words.specs.Reader.{wordOf, aloneOf}
+use Rattle.words.specs.declared.Counted.the-variants as counted
+use Rattle.words.specs.declared.Checked.the-variants as checked
+use Rattle.words.specs.declared.Word.{Word}
 use Rattle.words.specs.declared.Word.the-variants.{Value, End}
 use Rattle.words.proofs.Steps.{at-end, at-word}
 
@@ -37,11 +43,57 @@ module _ (ws : List ℤ) (at : ℕ) where
       go false h = let f = word-missing (ltb-false at (length ws) h) ∙ e in let z : _≡_ {A = ℕ} 0 1 = cc in absurd (omega arith)
 
   -- ---- moving on
-  pub on-at-end : (by : ℕ) → length ws ≤ at → drop at ws ≡ drop by (drop at ws)
-  on-at-end by h = rw (at-end ws at h) (sym (drop-nil by))
+  pub behind-end : length ws ≤ at → drop at ws ≡ drop (at + 1) ws
+  behind-end h = at-end ws at h ∙ sym (at-end ws (at + 1) (omega arith))
 
-  pub on-to-end : (by : ℕ) → length ws - at < by → drop (length ws) ws ≡ drop by (drop at ws)
-  on-to-end by h = at-end ws (length ws) (omega arith) ∙ sym (at-end ws (at + by) (omega arith)) ∙ sym (drop-drop by at ws)
+-- ---- a word by itself, as a count
+module _ (t : Word) where
+  pub end-count : t ≡ End → counted.Refused ListEndsEarly ≡ countedOf (readCount (aloneOf t))
+  unfolding readCount
+  end-count e = rw e refl
 
-  pub on-within : (by : ℕ) → drop (at + by) ws ≡ drop by (drop at ws)
-  on-within by = sym (drop-drop by at ws)
+  pub end-coordinate : t ≡ End → checked.Refused ListEndsEarly ≡ checkedOf (readCoordinate (aloneOf t))
+  unfolding readCoordinate
+  end-coordinate e = rw e refl
+
+  module _ (w : ℤ) (is : t ≡ Value w) where
+    pub negative-count : ltZ w (pos 0) ≡ true → counted.Refused CountOutOfRange ≡ countedOf (readCount (aloneOf t))
+    unfolding readCount
+    negative-count h = rw is (go w h)
+      where
+        go : (z : ℤ) → ltZ z (pos 0) ≡ true → counted.Refused CountOutOfRange ≡ countedOf (readCount (z ∷ []))
+        go (pos n) e = absurd (omega (arith, ltb-true n 0 e))
+        go (negsuc n) e = refl
+
+    pub word-count : ltZ w (pos 0) ≡ false → counted.Count (natAbs w) ≡ countedOf (readCount (aloneOf t))
+    unfolding readCount
+    word-count h = rw is (go w h)
+      where
+        go : (z : ℤ) → ltZ z (pos 0) ≡ false → counted.Count (natAbs z) ≡ countedOf (readCount (z ∷ []))
+        go (pos n) e = refl
+        go (negsuc n) e = absurd (true≢false e)
+
+    -- and as a coordinate
+    pub far-coordinate : beyond w ≡ true → checked.Refused CoordinateOutOfRange ≡ checkedOf (readCoordinate (aloneOf t))
+    unfolding readCoordinate
+    far-coordinate h = rw (is, h) refl
+
+    pub good-coordinate : beyond w ≡ false → checked.Good ≡ checkedOf (readCoordinate (aloneOf t))
+    unfolding readCoordinate
+    good-coordinate h = rw (is, h) refl
+
+-- the first of some words says what is read of them
+pub first-count : (l : List ℤ) → countedOf (readCount (aloneOf (wordOf l))) ≡ countedOf (readCount l)
+unfolding readCount
+first-count [] = refl
+first-count (pos n ∷ l) = refl
+first-count (negsuc n ∷ l) = refl
+
+pub first-coordinate : (l : List ℤ) → checkedOf (readCoordinate (aloneOf (wordOf l))) ≡ checkedOf (readCoordinate l)
+unfolding readCoordinate
+first-coordinate [] = refl
+first-coordinate (w ∷ l) = go (beyond w) refl
+  where
+    go : (b : Bool) → beyond w ≡ b → checkedOf (readCoordinate (w ∷ [])) ≡ checkedOf (readCoordinate (w ∷ l))
+    go true e = rw e refl
+    go false e = rw e refl

@@ -63,26 +63,6 @@ at-end ws at h = drop-of-length-le ws h
 pub at-word : (ws : List ℤ) (at : ℕ) → at < length ws → drop at ws ≡ getD ws at (pos 0) ∷ drop (at + 1) ws
 at-word ws at h = drop-cons ws at (pos 0) h ∙ ap (λ (k : ℕ). getD ws at (pos 0) ∷ drop k ws) (sym (add-one at))
 
-pub count-missing : (ws : List ℤ) (at : ℕ) → length ws ≤ at → counted.Refused ListEndsEarly ≡ countedOf (readCount (drop at ws))
-unfolding readCount
-count-missing ws at h = rw (at-end ws at h) refl
-
-pub count-negative : (ws : List ℤ) (at : ℕ) → at < length ws → ltZ (getD ws at (pos 0)) (pos 0) ≡ true → counted.Refused CountOutOfRange ≡ countedOf (readCount (drop at ws))
-unfolding readCount
-count-negative ws at h e = rw (at-word ws at h) (go (getD ws at (pos 0)) e)
-  where
-    go : (z : ℤ) → ltZ z (pos 0) ≡ true → counted.Refused CountOutOfRange ≡ countedOf (readCount (z ∷ drop (at + 1) ws))
-    go (pos n) e = absurd (omega (arith, ltb-true n 0 e))
-    go (negsuc n) e = refl
-
-pub count-is : (ws : List ℤ) (at : ℕ) → at < length ws → ltZ (getD ws at (pos 0)) (pos 0) ≡ false → counted.Count (natAbs (getD ws at (pos 0))) ≡ countedOf (readCount (drop at ws))
-unfolding readCount
-count-is ws at h e = rw (at-word ws at h) (go (getD ws at (pos 0)) e)
-  where
-    go : (z : ℤ) → ltZ z (pos 0) ≡ false → counted.Count (natAbs z) ≡ countedOf (readCount (z ∷ drop (at + 1) ws))
-    go (pos n) e = refl
-    go (negsuc n) e = absurd (true≢false e)
-
 pub coordinate-missing : (ws : List ℤ) (at : ℕ) → length ws ≤ at → checked.Refused ListEndsEarly ≡ checkedOf (readCoordinate (drop at ws))
 unfolding readCoordinate
 coordinate-missing ws at h = rw (at-end ws at h) refl
@@ -277,13 +257,18 @@ module _ (ws : List ℤ) (at before : ℕ) where
   abbrev scanGroup : Scan
   scanGroup = scanOf (length ws) groupPoints before (readGroup before (drop at ws))
 
-  pub group-missing : length ws ≤ at → scan.Refused ListEndsEarly ≡ scanGroup
-  unfolding readGroup
-  group-missing h = rw (at-end ws at h) refl
-
-  pub group-count : (f : Fault) → at < length ws → readCount (drop (at + 1) ws) ≡ fault f → scan.Refused f ≡ scanGroup
-  unfolding readGroup andThen
-  group-count f h e = rw (at-word ws at h, e) refl
+  -- where the rule word is missing, so is the count
+  pub group-fault : (f : Fault) → readCount (drop (at + 1) ws) ≡ fault f → scan.Refused f ≡ scanGroup
+  unfolding readGroup andThen readCount
+  group-fault f e = go (ltb at (length ws)) refl
+    where
+      go : (b : Bool) → ltb at (length ws) ≡ b → scan.Refused f ≡ scanGroup
+      go true h = rw (at-word ws at (ltb-true at (length ws) h), e) refl
+      go false h =
+          let l = ltb-false at (length ws) h in
+          let none = ap readCount (sym (at-end ws (at + 1) (omega arith))) ∙ e in
+          let same : f ≡ ListEndsEarly = cc in
+          rw (at-end ws at l, same) refl
 
   pub group-contours : (n : ℕ) (rest : List ℤ) → at < length ws → readCount (drop (at + 1) ws) ≡ ok n rest → rest ≡ drop (at + 2) ws → scanContours ws n before (at + 2) ≡ scanGroup
   unfolding readGroup

@@ -17,6 +17,11 @@ abbrev pub wordOf : List ℤ → Word
 wordOf [] = End
 wordOf (w ∷ ws) = Value w
 
+-- a word as a list of its own: what is read of it alone
+abbrev pub aloneOf : Word → List ℤ
+aloneOf (Value w) = w ∷ []
+aloneOf End = []
+
 -- 'a rule word (0 non-zero, any other value even-odd)'
 abbrev pub isEvenOdd : Word → Bool
 isEvenOdd (Value w) = not (isZero w)

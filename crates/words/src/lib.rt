@@ -6,10 +6,7 @@ ghost use Prim.Native.Nat.{_+_, _≤_};
 ghost use lib.ListN.{length, drop};
 ghost use Rattle.words.specs.Words.{beyond, readCount, readCoordinate, readPoint, readPoints, readContour, readContours, readGroup, readWords, pointsOf, pointsIn};
 ghost use Rattle.words.specs.Scan.{countedOf, checkedOf, scanOf, groupPoints};
-ghost use Rattle.words.specs.Reader.{ahead, wordOf, isEvenOdd};
-
-// Points that a list may have.
-pub const MOST_POINTS: usize = 2048;
+ghost use Rattle.words.specs.Reader.{ahead, wordOf, aloneOf, isEvenOdd};
 
 // A count word.
 pub enum Counted {
@@ -29,10 +26,75 @@ pub enum Scan {
     Refused(Fault),
 }
 
+impl Scan {
+    // Points that a list may have.
+    const MOST_POINTS: usize = 2048;
+}
+
 // A word of the list, or its end.
 pub enum Word {
     Value(i32),
     End,
+}
+
+impl Word {
+    // The largest size of a coordinate.
+    const LARGEST_COORDINATE: i32 = 1048576;
+
+    // As a rule: whether it asks for even-odd. The list's end does not.
+    fn is_even_odd(self) -> bool
+        ensures { λ r. ⌜ r ≡ isEvenOdd self ⌝ }
+    {
+        match self {
+            Word::Value(rule) => rule != 0,
+            Word::End => false,
+        }
+    }
+
+    // As a count.
+    fn count(self) -> Counted
+        ensures { λ r. ⌜ r ≡ countedOf (readCount (aloneOf self)) ⌝ }
+    {
+        let Word::Value(n) = self else {
+            return Counted::Refused(Fault::ListEndsEarly);
+        };
+        if n < 0 {
+            return Counted::Refused(Fault::CountOutOfRange);
+        }
+        Counted::Count(n as usize)
+    }
+
+    // Whether a coordinate lies beyond its limit.
+    fn is_beyond(x: i32) -> bool
+        ensures { λ r. ⌜ r ≡ beyond x ⌝ }
+    {
+        x < -Self::LARGEST_COORDINATE || Self::LARGEST_COORDINATE < x
+    }
+
+    // As a coordinate.
+    fn coordinate(self) -> Checked
+        ensures { λ r. ⌜ r ≡ checkedOf (readCoordinate (aloneOf self)) ⌝ }
+    {
+        let Word::Value(x) = self else {
+            return Checked::Refused(Fault::ListEndsEarly);
+        };
+        if Self::is_beyond(x) {
+            return Checked::Refused(Fault::CoordinateOutOfRange);
+        }
+        Checked::Good
+    }
+}
+
+// Two words of the list, one behind the other.
+pub struct Pair {
+    pub first: Word,
+    pub second: Word,
+}
+
+// The head of a group: its rule, and its count of contours.
+pub struct Head {
+    pub even_odd: bool,
+    pub contours: Counted,
 }
 
 // What stands at a place: the only index into a word list.
@@ -45,17 +107,14 @@ fn value_at(words: &[i32], at: usize) -> Word
     Word::Value(words[at])
 }
 
-// The place `by` words behind another, or the list's end.
-fn place_behind(words: &[i32], at: usize, by: usize) -> usize
-    ensures { λ r. ⌜ drop r (now (words .entry)) ≡ drop by (drop at (now (words .entry))) ⌝ }
+// The place behind another, or the list's end.
+fn place_behind(words: &[i32], at: usize) -> usize
+    ensures { λ r. ⌜ drop r (now (words .entry)) ≡ drop (at + 1) (now (words .entry)) ⌝ }
 {
     if words.len() <= at {
         return at;
     }
-    if words.len() - at < by {
-        return words.len();
-    }
-    at + by
+    at + 1
 }
 
 // The word reader: the lent list and the place of its next word. The borrow checker covers no
@@ -66,21 +125,11 @@ struct WordReader<'a> {
 }
 
 impl<'a> WordReader<'a> {
-    // A reader whose next word is the list's first.
-    fn new(words: &'a [i32]) -> WordReader<'a>
-        ensures { λ r. ⌜ ahead r ≡ now (words .entry) ⌝ }
+    // A reader whose next word is the one at a place.
+    fn new(words: &'a [i32], at: usize) -> WordReader<'a>
+        ensures { λ r. ⌜ ahead r ≡ drop at (now (words .entry)) ⌝ }
     {
-        WordReader { words, at: 0 }
-    }
-
-    // The reader `by` words on, or at the list's end.
-    fn moved(self, by: usize) -> WordReader<'a>
-        ensures { λ r. ⌜ ahead r ≡ drop by (ahead (self .entry)) ⌝ }
-    {
-        WordReader {
-            words: self.words,
-            at: place_behind(self.words, self.at, by),
-        }
+        WordReader { words, at }
     }
 
     // The next word.
@@ -89,22 +138,33 @@ impl<'a> WordReader<'a> {
     {
         value_at(self.words, self.at)
     }
+
+    // The reader behind its next word.
+    fn moved(self) -> WordReader<'a>
+        ensures { λ r. ⌜ ahead r ≡ drop 1 (ahead (self .entry)) ⌝ }
+    {
+        WordReader {
+            words: self.words,
+            at: place_behind(self.words, self.at),
+        }
+    }
 }
 
-// The word at a place. Every word of a list is read by this call.
+// The word at a place.
 pub fn word_at(words: &[i32], at: usize) -> Word
     ensures { λ r. ⌜ r ≡ wordOf (drop at (now (words .entry))) ⌝ }
 {
-    WordReader::new(words).moved(at).peek()
+    WordReader::new(words, at).peek()
 }
 
-// Whether the rule word at a place asks for even-odd. The list's end does not.
-pub fn is_even_odd_at(words: &[i32], at: usize) -> bool
-    ensures { λ r. ⌜ r ≡ isEvenOdd (wordOf (drop at (now (words .entry)))) ⌝ }
+// The two words from a place on, read by one reader that moves on between them.
+pub fn pair_at(words: &[i32], at: usize) -> Pair
+    ensures { λ r. ⌜ (r .first ≡ wordOf (drop at (now (words .entry)))) × (r .second ≡ wordOf (drop (at + 1) (now (words .entry)))) ⌝ }
 {
-    match word_at(words, at) {
-        Word::Value(rule) => rule != 0,
-        Word::End => false,
+    let reader = WordReader::new(words, at);
+    Pair {
+        first: reader.peek(),
+        second: reader.moved().peek(),
     }
 }
 
@@ -112,45 +172,32 @@ pub fn is_even_odd_at(words: &[i32], at: usize) -> bool
 pub fn count_at(words: &[i32], at: usize) -> Counted
     ensures { λ r. ⌜ r ≡ countedOf (readCount (drop at (now (words .entry)))) ⌝ }
 {
-    let Word::Value(word) = word_at(words, at) else {
-        return Counted::Refused(Fault::ListEndsEarly);
-    };
-    if word < 0 {
-        return Counted::Refused(Fault::CountOutOfRange);
-    }
-    Counted::Count(word as usize)
+    word_at(words, at).count()
 }
 
-// Whether a coordinate lies beyond its limit.
-fn is_beyond(word: i32) -> bool
-    ensures { λ r. ⌜ r ≡ beyond word ⌝ }
+// The head of the group at a place.
+pub fn head_at(words: &[i32], at: usize) -> Head
+    ensures { λ r. ⌜ (r .«even_odd» ≡ isEvenOdd (wordOf (drop at (now (words .entry))))) × (r .contours ≡ countedOf (readCount (drop (at + 1) (now (words .entry))))) ⌝ }
 {
-    if word < -1048576 {
-        return true;
+    let head = pair_at(words, at);
+    let rule = head.first;
+    let contours = head.second;
+    Head {
+        even_odd: rule.is_even_odd(),
+        contours: contours.count(),
     }
-    1048576 < word
-}
-
-// The coordinate word at a place.
-fn coordinate_at(words: &[i32], at: usize) -> Checked
-    ensures { λ r. ⌜ r ≡ checkedOf (readCoordinate (drop at (now (words .entry)))) ⌝ }
-{
-    let Word::Value(word) = word_at(words, at) else {
-        return Checked::Refused(Fault::ListEndsEarly);
-    };
-    if is_beyond(word) {
-        return Checked::Refused(Fault::CoordinateOutOfRange);
-    }
-    Checked::Good
 }
 
 // The pair of coordinates at a place.
 fn point_at(words: &[i32], at: usize) -> Checked
     ensures { λ r. ⌜ r ≡ checkedOf (readPoint (drop at (now (words .entry)))) ⌝ }
 {
-    match coordinate_at(words, at) {
+    let point = pair_at(words, at);
+    let x = point.first;
+    let y = point.second;
+    match x.coordinate() {
         Checked::Refused(f) => Checked::Refused(f),
-        Checked::Good => coordinate_at(words, at + 1),
+        Checked::Good => y.coordinate(),
     }
 }
 
@@ -181,7 +228,7 @@ fn contour_at(words: &[i32], from: usize, before: usize) -> Scan
     match count_at(words, from) {
         Counted::Refused(f) => Scan::Refused(f),
         Counted::Count(n) => {
-            if MOST_POINTS - before < n {
+            if Scan::MOST_POINTS - before < n {
                 Scan::Refused(Fault::CountOutOfRange)
             } else {
                 points_at(words, from + 1, n, before)
@@ -211,15 +258,14 @@ fn contours_at(words: &[i32], from: usize, n: usize, before: usize) -> Scan
     Scan::At(at, points)
 }
 
-// A group.
+// A group. Where its rule is missing, so is its count.
 fn group_at(words: &[i32], from: usize, before: usize) -> Scan
     requires { ⌜ before ≤ 2048 ⌝ }
     ensures { λ r. ⌜ r ≡ scanOf (length (now (words .entry))) groupPoints before (readGroup before (drop from (now (words .entry)))) ⌝ }
 {
-    let Word::Value(_) = word_at(words, from) else {
-        return Scan::Refused(Fault::ListEndsEarly);
-    };
-    match count_at(words, from + 1) {
+    let head = head_at(words, from);
+    let contours = head.contours;
+    match contours {
         Counted::Refused(f) => Scan::Refused(f),
         Counted::Count(n) => contours_at(words, from + 2, n, before),
     }

@@ -8,6 +8,7 @@ use lib.ListN.{length, drop}
 use Rattle.laying.proofs.Laid.{laying-front}
 use Rattle.mask.specs.Calls.{cellsOf, tooLarge}
 use Rattle.mask.proofs.Answers.{size-small, cells-fit, cells-long, own-too-large, other-too-large, own-short, other-short, laid-done}
+use Rattle.mask.proofs.Numbers.{lay-number}
 use borrow.Author.Needs.{needs}
 use Rattle.mask.proofs.intersect.Statement.{statement}
 use Rattle.mask.proofs.intersect.Tie as tie
@@ -16,13 +17,19 @@ is-too-large-requires : tie.Need-is-too-large-requires
 is-too-large-requires c κs = search needs
 
 returns : tie.Need-returns
-returns c = let args = c .before .before .before .before .args in (own-too-large (args .size) (args .other-size) (length (args .mask .now)) (length (args .other .now)) (sym (c .before .is-too-large .ensures) ∙ c .if1 .taken), refl)
+returns c =
+    let args = c .before .before .before .before .args in
+    let e = own-too-large (args .size) (args .other-size) (length (args .mask .now)) (length (args .other .now)) (sym (c .before .is-too-large .ensures) ∙ c .if1 .taken) in
+    (e, (refl, lay-number (args .size) (args .other-size) (length (args .mask .now)) (length (args .other .now)) e))
 
 is-too-large-requires-2 : tie.Need-is-too-large-requires-2
 is-too-large-requires-2 c κs = search needs
 
 returns-2 : tie.Need-returns-2
-returns-2 c = let args = c .before .before .before .before .before .before .args in (other-too-large (args .size) (args .other-size) (length (args .mask .now)) (length (args .other .now)) (sym (c .before .is-too-large2 .ensures) ∙ c .if2 .taken), refl)
+returns-2 c =
+    let args = c .before .before .before .before .before .before .args in
+    let e = other-too-large (args .size) (args .other-size) (length (args .mask .now)) (length (args .other .now)) (sym (c .before .is-too-large2 .ensures) ∙ c .if2 .taken) in
+    (e, (refl, lay-number (args .size) (args .other-size) (length (args .mask .now)) (length (args .other .now)) e))
 
 mul-cells : tie.Need-mul-cells
 mul-cells c =
@@ -36,7 +43,8 @@ returns-3 c =
     let args = c .before .before .before .before .before .before .before .before .args in
     let small : tooLarge (args .size) ≡ false = sym (c .before .before .before .before .before .is-too-large .ensures) ∙ c .before .before .before .before .if1 .left in
     let other-small : tooLarge (args .other-size) ≡ false = sym (c .before .before .before .is-too-large2 .ensures) ∙ c .before .before .if2 .left in
-    (own-short (args .size) (args .other-size) (length (args .mask .now)) (length (args .other .now)) small other-small (c .if3 .taken), refl)
+    let e = own-short (args .size) (args .other-size) (length (args .mask .now)) (length (args .other .now)) small other-small (c .if3 .taken) in
+    (e, (refl, lay-number (args .size) (args .other-size) (length (args .mask .now)) (length (args .other .now)) e))
 
 mul-if4 : tie.Need-mul-if4
 mul-if4 c =
@@ -50,7 +58,8 @@ returns-4 c =
     let args = c .before .before .before .before .before .before .before .before .before .before .args in
     let small : tooLarge (args .size) ≡ false = sym (c .before .before .before .before .before .before .before .is-too-large .ensures) ∙ c .before .before .before .before .before .before .if1 .left in
     let other-small : tooLarge (args .other-size) ≡ false = sym (c .before .before .before .before .before .is-too-large2 .ensures) ∙ c .before .before .before .before .if2 .left in
-    (other-short (args .size) (args .other-size) (length (args .mask .now)) (length (args .other .now)) small other-small (c .if4 .taken), refl)
+    let e = other-short (args .size) (args .other-size) (length (args .mask .now)) (length (args .other .now)) small other-small (c .if4 .taken) in
+    (e, (refl, lay-number (args .size) (args .other-size) (length (args .mask .now)) (length (args .other .now)) e))
 
 slice-relend-prefix-lay : tie.Need-slice-relend-prefix-lay
 slice-relend-prefix-lay c = search needs
@@ -74,9 +83,11 @@ returns-5 : tie.Need-returns-5
 returns-5 c =
     let args = c .before .before .before .before .before .before .before .before .before .before .before .before .before .before .args in
     let small : tooLarge (args .size) ≡ false = sym (c .before .before .before .before .before .before .before .before .before .before .before .is-too-large .ensures) ∙ c .before .before .before .before .before .before .before .before .before .before .if1 .left in
-    let other-small : tooLarge (args .other-size) ≡ false = sym (c .before .before .before .before .before .before .before .before .before .is-too-large2 .ensures) ∙ c .before .before .before .before .before .before .before .before .if2 .left in (
-      laid-done (args .size) (args .other-size) (length (args .mask .now)) (length (args .other .now)) small other-small (omega arith) (omega arith),
-      ap (λ (l : List ℕ). l ++ drop (cellsOf (args .size)) (args .mask .now)) (c .before .before .lay .ensures ∙ laying-front (args .size) (args .mask .now) (args .other-size) (args .other .now) (args .offset)),
+    let other-small : tooLarge (args .other-size) ≡ false = sym (c .before .before .before .before .before .before .before .before .before .is-too-large2 .ensures) ∙ c .before .before .before .before .before .before .before .before .if2 .left in
+    let e = laid-done (args .size) (args .other-size) (length (args .mask .now)) (length (args .other .now)) small other-small (omega arith) (omega arith) in (
+      e,
+      (ap (λ (l : List ℕ). l ++ drop (cellsOf (args .size)) (args .mask .now)) (c .before .before .lay .ensures ∙ laying-front (args .size) (args .mask .now) (args .other-size) (args .other .now) (args .offset)),
+      lay-number (args .size) (args .other-size) (length (args .mask .now)) (length (args .other .now)) e),
     )
 
 pub intersect-spec : {M : Type 1} → statement M

@@ -2,9 +2,9 @@
 use mathlib.Core.Path.{_≡_, refl, sym, _∙_}
 use mathlib.Core.Bool.{false}
 use native.Mathlib.Omega.{arith}
-use lib.ListN.{length}
-use Rattle.mask.specs.Calls.{tooLarge}
+use Rattle.mask.specs.Calls.{lentTo, tooLarge}
 use Rattle.mask.proofs.Answers.{size-small, cells-fit, too-large, mask-short, then-list, list-fault, list-counted}
+use Rattle.mask.proofs.Numbers.{draw-number}
 use borrow.Author.Needs.{needs}
 use Rattle.mask.proofs.rasterize_into.Statement.{statement}
 use Rattle.mask.proofs.rasterize_into.Tie as tie
@@ -15,7 +15,9 @@ is-too-large-requires c κs = search needs
 returns : tie.Need-returns
 returns c =
     let args = c .before .before .before .before .before .args in
-    (too-large (args .size) (args .words .now) (record { mask = length (args .mask .now); floats = length (args .floats .now); counters = length (args .counters .now) }) (sym (c .before .is-too-large .ensures) ∙ c .if1 .taken), (refl, (refl, refl)))
+    let lent = lentTo (args .mask .now) (args .floats .now) (args .counters .now) in
+    let e = too-large (args .size) (args .words .now) lent (sym (c .before .is-too-large .ensures) ∙ c .if1 .taken) in
+    (e, (refl, (refl, (refl, draw-number (args .size) (args .words .now) lent e))))
 
 mul-if2 : tie.Need-mul-if2
 mul-if2 c =
@@ -28,7 +30,9 @@ returns-2 : tie.Need-returns-2
 returns-2 c =
     let args = c .before .before .before .before .before .before .before .args in
     let small : tooLarge (args .size) ≡ false = sym (c .before .before .before .is-too-large .ensures) ∙ c .before .before .if1 .left in
-    (mask-short (args .size) (args .words .now) (record { mask = length (args .mask .now); floats = length (args .floats .now); counters = length (args .counters .now) }) small (c .if2 .taken), (refl, (refl, refl)))
+    let lent = lentTo (args .mask .now) (args .floats .now) (args .counters .now) in
+    let e = mask-short (args .size) (args .words .now) lent small (c .if2 .taken) in
+    (e, (refl, (refl, (refl, draw-number (args .size) (args .words .now) lent e))))
 
 read-words-requires : tie.Need-read-words-requires
 read-words-requires c κs = search needs
@@ -53,7 +57,9 @@ returns-3 c =
     let args = c .before .before .before .before .before .before .before .before .before .before .before .args in
     let small : tooLarge (args .size) ≡ false = sym (c .before .before .before .before .before .before .before .is-too-large .ensures) ∙ c .before .before .before .before .before .before .if1 .left in
     let f-known = c .before .f in
-    (list-fault (args .size) (args .words .now) (record { mask = length (args .mask .now); floats = length (args .floats .now); counters = length (args .counters .now) }) small (c .before .before .before .before .if2 .left) (f-known .given .0 .0) (sym (c .before .before .before .read-words .ensures) ∙ f-known .given .1), (refl, (refl, refl)))
+    let lent = lentTo (args .mask .now) (args .floats .now) (args .counters .now) in
+    let e = list-fault (args .size) (args .words .now) lent small (c .before .before .before .before .if2 .left) (f-known .given .0 .0) (sym (c .before .before .before .read-words .ensures) ∙ f-known .given .1) in
+    (e, (refl, (refl, (refl, draw-number (args .size) (args .words .now) lent e))))
 
 same-length : tie.Need-same-length
 same-length c = search needs
@@ -69,7 +75,9 @@ returns-4 c =
     let args = c .before .before .before .before .before .before .before .before .before .before .before .before .before .before .before .before .before .before .before .before .before .args in
     let small : tooLarge (args .size) ≡ false = sym (c .before .before .before .before .before .before .before .before .before .before .before .before .before .before .before .before .before .is-too-large .ensures) ∙ c .before .before .before .before .before .before .before .before .before .before .before .before .before .before .before .before .if1 .left in
     let draw-in = c .before .before .before .before .before .before .draw-in in
-    (draw-in .ensures .0 ∙ then-list (args .size) (args .words .now) (record { mask = length (args .mask .now); floats = length (args .floats .now); counters = length (args .counters .now) }) small (c .before .before .before .before .before .before .before .before .before .before .before .before .before .before .if2 .left), (draw-in .ensures .1 .0, (draw-in .ensures .1 .1 .0, draw-in .ensures .1 .1 .1)))
+    let lent = lentTo (args .mask .now) (args .floats .now) (args .counters .now) in
+    let e = draw-in .ensures .0 ∙ then-list (args .size) (args .words .now) lent small (c .before .before .before .before .before .before .before .before .before .before .before .before .before .before .if2 .left) in
+    (e, (draw-in .ensures .1 .0, (draw-in .ensures .1 .1 .0, (draw-in .ensures .1 .1 .1, draw-number (args .size) (args .words .now) lent e))))
 
 pub rasterize-into-spec : {M : Type 1} → statement M
 rasterize-into-spec =

@@ -1,13 +1,22 @@
 -- `words::point_at` meets its contract. Assumes nothing.
 use borrow.Author.Needs.{needs}
-use mathlib.Core.Path.{sym, _∙_}
-use native.Mathlib.Omega.{arith}
-use Rattle.words.proofs.Steps.{coordinate-next, point-first, point-second}
+use mathlib.Core.Path.{_≡_, sym, ap, _∙_}
+use Prim.Native.Nat.{_+_}
+use lib.ListN.{drop}
+use Rattle.words.specs.Words.{readCoordinate}
+use Rattle.words.specs.Scan.{checkedOf}
+use Rattle.words.specs.Reader.{aloneOf}
+use Rattle.words.specs.declared.Word.{Word}
+use Rattle.words.proofs.Reader.{first-coordinate}
+use Rattle.words.proofs.Steps.{point-first, point-second}
 use Rattle.words.proofs.point_at.Statement.{statement}
 use Rattle.words.proofs.point_at.Tie as tie
 
-coordinate-at-requires : tie.Need-coordinate-at-requires
-coordinate-at-requires c κs = search needs
+pair-at-requires : tie.Need-pair-at-requires
+pair-at-requires c κs = search needs
+
+coordinate-requires : tie.Need-coordinate-requires
+coordinate-requires c κs = search needs
 
 enum-known-f : tie.Need-enum-known-f
 enum-known-f c = search needs
@@ -15,26 +24,31 @@ enum-known-f c = search needs
 enum-told : tie.Need-enum-told
 enum-told c = search needs
 
-add-coordinate-at : tie.Need-add-coordinate-at
-add-coordinate-at c = let n = (coordinate-next (c .before .before .before .args .words .now) (c .before .before .before .args .at) (sym (c .before .before .coordinate-at .ensures) ∙ c .enum-told .given .1)) .0 in omega arith
-
-coordinate-at-requires-2 : tie.Need-coordinate-at-requires-2
-coordinate-at-requires-2 c κs = search needs
+coordinate-requires-2 : tie.Need-coordinate-requires-2
+coordinate-requires-2 c κs = search needs
 
 returns : tie.Need-returns
-returns c = point-first (c .before .before .before .before .args .words .now) (c .before .before .before .before .args .at) (c .before .f .given .0 .0) (sym (c .before .f .given .1) ∙ c .before .before .before .coordinate-at .ensures)
+returns c =
+    let args = c .before .before .before .before .before .args in
+    let x = c .before .before .before .coordinate .ensures ∙ ap (λ (t : Word). checkedOf (readCoordinate (aloneOf t))) (c .before .before .before .before .pair-at .ensures .0) ∙ first-coordinate (drop (args .at) (args .words .now)) in
+    point-first (args .words .now) (args .at) (c .before .f .given .0 .0) (sym (c .before .f .given .1) ∙ x)
 
 returns-2 : tie.Need-returns-2
-returns-2 c = c .coordinate-at2 .ensures ∙ point-second (c .before .before .before .before .args .words .now) (c .before .before .before .before .args .at) (sym (c .before .before .before .coordinate-at .ensures) ∙ c .before .enum-told .given .1)
+returns-2 c =
+    let args = c .before .before .before .before .before .args in
+    let pair-at = c .before .before .before .before .pair-at in
+    let x = c .before .before .before .coordinate .ensures ∙ ap (λ (t : Word). checkedOf (readCoordinate (aloneOf t))) (pair-at .ensures .0) ∙ first-coordinate (drop (args .at) (args .words .now)) in
+    let y = c .coordinate2 .ensures ∙ ap (λ (t : Word). checkedOf (readCoordinate (aloneOf t))) (pair-at .ensures .1) ∙ first-coordinate (drop (args .at + 1) (args .words .now)) in
+    y ∙ point-second (args .words .now) (args .at) (sym x ∙ c .before .enum-told .given .1)
 
 pub point-at-spec : {M : Type 1} → statement M
 point-at-spec =
     tie.close
     (tie.spec
-    coordinate-at-requires
+    pair-at-requires
+    coordinate-requires
     enum-known-f
     enum-told
-    add-coordinate-at
-    coordinate-at-requires-2
+    coordinate-requires-2
     returns
     returns-2)

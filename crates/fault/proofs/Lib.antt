@@ -1,0 +1,2 @@
+-- Numbers: each cause has a number of its own.
+pub mod Numbers

@@ -1,0 +1,67 @@
+-- Each cause has a number of its own, from 1 to 31 (specs/Number.antt, CauseNumbers). Assumes nothing.
+use mathlib.Core.Path.{_≡_, refl, sym, ap, _∙_}
+use mathlib.Core.List.{[], _∷_}
+use Prim.Native.Nat.{ℕ, _≤_}
+use native.Mathlib.Omega.{arith}
+use lib.ListN.{getD}
+use Rattle.fault.specs.declared.Fault.{Fault}
+use Rattle.fault.specs.declared.Fault.the-variants.{
+  NumberOutOfRange,
+  ImproperBox,
+  MaskTooLarge,
+  BufferTooShort,
+  ListEndsEarly,
+  CountOutOfRange,
+  CoordinateOutOfRange,
+  UnknownVerb,
+  PositionsMismatch,
+  CurveVerb,
+  TooManyVerbs,
+  TooManyBoxes,
+}
+use Rattle.fault.specs.Number.{numberOf, CauseNumbers}
+
+-- the causes in the order of their numbers
+abbrev causeAt : ℕ → Fault
+causeAt n = getD (
+    NumberOutOfRange
+    ∷ NumberOutOfRange
+    ∷ ImproperBox
+    ∷ MaskTooLarge
+    ∷ BufferTooShort
+    ∷ ListEndsEarly
+    ∷ CountOutOfRange
+    ∷ CoordinateOutOfRange
+    ∷ UnknownVerb
+    ∷ PositionsMismatch
+    ∷ CurveVerb
+    ∷ TooManyVerbs
+    ∷ TooManyBoxes
+    ∷ []
+    ) n NumberOutOfRange
+
+record Tabled (f : Fault) : Type 0 where
+  back : causeAt (numberOf f) ≡ f
+  least : 1 ≤ numberOf f
+  most : numberOf f ≤ 31
+
+tabled : (f : Fault) → Tabled f
+tabled NumberOutOfRange = record { back = refl; least = omega arith; most = omega arith }
+tabled ImproperBox = record { back = refl; least = omega arith; most = omega arith }
+tabled MaskTooLarge = record { back = refl; least = omega arith; most = omega arith }
+tabled BufferTooShort = record { back = refl; least = omega arith; most = omega arith }
+tabled ListEndsEarly = record { back = refl; least = omega arith; most = omega arith }
+tabled CountOutOfRange = record { back = refl; least = omega arith; most = omega arith }
+tabled CoordinateOutOfRange = record { back = refl; least = omega arith; most = omega arith }
+tabled UnknownVerb = record { back = refl; least = omega arith; most = omega arith }
+tabled PositionsMismatch = record { back = refl; least = omega arith; most = omega arith }
+tabled CurveVerb = record { back = refl; least = omega arith; most = omega arith }
+tabled TooManyVerbs = record { back = refl; least = omega arith; most = omega arith }
+tabled TooManyBoxes = record { back = refl; least = omega arith; most = omega arith }
+
+pub cause-numbers : CauseNumbers
+cause-numbers = record {
+  least = λ f. tabled f .least;
+  most = λ f. tabled f .most;
+  apart = λ f g e. sym (tabled f .back) ∙ ap causeAt e ∙ tabled g .back;
+}

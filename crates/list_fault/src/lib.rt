@@ -1,0 +1,1 @@
+// What is at fault in a word list, said without the reading: definitions and proofs, no code.

@@ -1,0 +1,32 @@
+-- `words::head_at` meets its contract. Assumes nothing.
+use borrow.Author.Needs.{needs}
+use mathlib.Core.Path.{ap, _∙_}
+use Prim.Native.Nat.{_+_}
+use lib.ListN.{drop}
+use Rattle.words.specs.Words.{readCount}
+use Rattle.words.specs.Scan.{countedOf}
+use Rattle.words.specs.Reader.{aloneOf, isEvenOdd}
+use Rattle.words.specs.declared.Word.{Word}
+use Rattle.words.proofs.Reader.{first-count}
+use Rattle.words.proofs.head_at.Statement.{statement}
+use Rattle.words.proofs.head_at.Tie as tie
+
+pair-at-requires : tie.Need-pair-at-requires
+pair-at-requires c κs = search needs
+
+is-even-odd-requires : tie.Need-is-even-odd-requires
+is-even-odd-requires c κs = search needs
+
+count-requires : tie.Need-count-requires
+count-requires c κs = search needs
+
+returns : tie.Need-returns
+returns c =
+    let args = c .before .before .before .args in
+    let pair-at = c .before .before .pair-at in (
+      c .before .is-even-odd .ensures ∙ ap isEvenOdd (pair-at .ensures .0),
+      c .count .ensures ∙ ap (λ (t : Word). countedOf (readCount (aloneOf t))) (pair-at .ensures .1) ∙ first-count (drop (args .at + 1) (args .words .now)),
+    )
+
+pub head-at-spec : {M : Type 1} → statement M
+head-at-spec = tie.close (tie.spec pair-at-requires is-even-odd-requires count-requires returns)
