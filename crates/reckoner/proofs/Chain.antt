@@ -28,9 +28,11 @@ use Rattle.mask.proofs.LayCauses.{laid-exactly-when}
 use Rattle.bound.specs.Close.{byteAt}
 use Rattle.bound.proofs.Close.{drawn-bytes-are-close}
 use Rattle.reckoner.specs.Reckoner.{Cell, Held, Place, running, next, Two, of, put, atFirst, drawnHeld, both, alone, meets, laidHeld, Call, draw, lay, answer, answers, step, reckoned, GivenSizes, Meant}
-use Rattle.reckoner.specs.Claim.{Buffers, HasLengths, ScratchFor, Scratches, answered, left, allAnswered, allLeft, EveryList}
+use Rattle.reckoner.specs.Claim.{Buffers, HasLengths, ScratchFor, Scratches, answered, left, allAnswered, allLeft, CallNumbers, numbers, EveryList}
 use Rattle.reckoner.proofs.LayStep.{lay-near, lay-none, lay-byte, share-nonneg, share-most}
 use Rattle.reckoner.proofs.Small.{drawn-small}
+use Rattle.reckoner.proofs.Numbers.{list-only, list-always}
+use Rattle.reckoner.proofs.Scratch.{scratch-never-matters}
 
 -- ---- what holds of a cell with the bytes of two runs, of a mask, and of both masks
 record CellHeld (a : Cell) (x y : ℕ) : Type 0 where
@@ -227,6 +229,9 @@ module _ (lengths : Two ℕ) where
 pub every-list : EveryList
 every-list lengths cs = record {
   answers-are = λ b h s. all-answers lengths cs b s h;
+  numbers-only = λ b h s. subst (λ (os : List Outcome). CallNumbers lengths cs (numbers os)) (sym (all-answers lengths cs b s h)) (list-only lengths cs);
+  numbers-always = λ b h s ns k. ap numbers (all-answers lengths cs b s h) ∙ list-always lengths cs ns k;
+  scratch-never-matters = scratch-never-matters cs;
   lengths-kept = λ b h s. all-lengths lengths cs b s h;
   near = λ m b h s p column row c r. (all-held lengths cs atFirst b b s s m h h (held-first lengths b b) p .cells column row c r) .close;
   alike = λ m b d h j s t. (

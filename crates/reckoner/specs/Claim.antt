@@ -7,7 +7,8 @@ use lib.ListN.{length}
 use lib.Ieee.{Float}
 use Rattle.fraction.specs.Fraction.{natᶠ, _*ᶠ_, Near}
 use Rattle.mask.specs.declared.Outcome.{Outcome}
-use Rattle.mask.specs.Calls.{drawAnswer, maskAfterDrawing, layAnswer, maskAfterLaying}
+use Rattle.mask.specs.Calls.{outcomeNumber, drawAnswer, maskAfterDrawing, layAnswer, maskAfterLaying}
+use Rattle.mask.specs.Laws.{DrawNumber, LayNumber}
 use Rattle.bound.specs.Close.{byteAt}
 use Rattle.reckoner.specs.Reckoner.{Place, running, Two, of, put, atFirst, Call, draw, lay, answers, reckoned, Meant}
 
@@ -53,10 +54,30 @@ abbrev pub allLeft : (cs : List Call) → Scratches cs → Buffers → Buffers
 allLeft [] s b = b
 allLeft (c ∷ cs) s b = allLeft cs (s .1) (left b c (s .0))
 
+-- ---- the answers in document 01's numbers, each from its cause (mask/specs/Laws.antt), for mask buffers of these lengths
+abbrev pub CallNumber : Two ℕ → Call → ℕ → Type 0
+CallNumber lengths (draw p size words floats counters) n = DrawNumber size words (record { mask = of p lengths; floats = floats; counters = counters }) n
+CallNumber lengths (lay size otherSize offset) n = LayNumber size otherSize (lengths .atRunning) (lengths .atNext) n
+
+abbrev pub CallNumbers : Two ℕ → List Call → List ℕ → Type 0
+CallNumbers lengths [] [] = Unit {0}
+CallNumbers lengths [] (n ∷ ns) = ⊥
+CallNumbers lengths (c ∷ cs) [] = ⊥
+CallNumbers lengths (c ∷ cs) (n ∷ ns) = CallNumber lengths c n × CallNumbers lengths cs ns
+
+abbrev pub numbers : List Outcome → List ℕ
+numbers [] = []
+numbers (o ∷ os) = outcomeNumber o ∷ numbers os
+
 -- ---- the claim, for mask buffers of these lengths
 pub record Claim (lengths : Two ℕ) (cs : List Call) : Type 0 where
   -- every answer is what document 01's table and order give
   pub answers-are : (b : Buffers) → HasLengths lengths b → (s : Scratches cs) → allAnswered cs s b ≡ answers lengths cs
+  -- in numbers, each from its cause: the run gives these numbers and no others
+  pub numbers-only : (b : Buffers) → HasLengths lengths b → (s : Scratches cs) → CallNumbers lengths cs (numbers (allAnswered cs s b))
+  pub numbers-always : (b : Buffers) → HasLengths lengths b → (s : Scratches cs) (ns : List ℕ) → CallNumbers lengths cs ns → numbers (allAnswered cs s b) ≡ ns
+  -- 'It may hold anything on entry': whatever the scratch held, the same answers, and the same bytes in all of both buffers, in the lists not meant too
+  pub scratch-never-matters : (b : Buffers) (s t : Scratches cs) → (allAnswered cs s b ≡ allAnswered cs t b) × (allLeft cs s b ≡ allLeft cs t b)
   -- the buffers keep their lengths
   pub lengths-kept : (b : Buffers) → HasLengths lengths b → (s : Scratches cs) → HasLengths lengths (allLeft cs s b)
   -- 'After the list each mask cell's byte differs from 255 times its share by at most its allowed difference.'

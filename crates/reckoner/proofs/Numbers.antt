@@ -1,0 +1,27 @@
+-- The answers to a list of calls in document 01's numbers, each from its cause (specs/Claim.antt). Assumes nothing.
+use mathlib.Core.Path.{_≡_, refl, ap₂}
+use mathlib.Core.List.{List, [], _∷_}
+use Prim.Native.Nat.{ℕ}
+use Rattle.mask.specs.Calls.{outcomeNumber}
+use Rattle.mask.proofs.Numbers.{numbers-exactly-when}
+use Rattle.reckoner.specs.Reckoner.{Two, of, Call, draw, lay, answer, answers}
+use Rattle.reckoner.specs.Claim.{CallNumber, CallNumbers, numbers}
+
+module _ (lengths : Two ℕ) where
+  call-only : (c : Call) → CallNumber lengths c (outcomeNumber (answer lengths c))
+  call-only (draw p size words floats counters) = numbers-exactly-when .draw-only size words (record { mask = of p lengths; floats = floats; counters = counters })
+  call-only (lay size otherSize offset) = numbers-exactly-when .lay-only size otherSize (lengths .atRunning) (lengths .atNext)
+
+  call-always : (c : Call) (n : ℕ) → CallNumber lengths c n → outcomeNumber (answer lengths c) ≡ n
+  call-always (draw p size words floats counters) n h = numbers-exactly-when .draw-always size words (record { mask = of p lengths; floats = floats; counters = counters }) n h
+  call-always (lay size otherSize offset) n h = numbers-exactly-when .lay-always size otherSize (lengths .atRunning) (lengths .atNext) n h
+
+  pub list-only : (cs : List Call) → CallNumbers lengths cs (numbers (answers lengths cs))
+  list-only [] = tt
+  list-only (c ∷ cs) = (call-only c, list-only cs)
+
+  pub list-always : (cs : List Call) (ns : List ℕ) → CallNumbers lengths cs ns → numbers (answers lengths cs) ≡ ns
+  list-always [] [] h = refl
+  list-always [] (n ∷ ns) h = absurd h
+  list-always (c ∷ cs) [] h = absurd h
+  list-always (c ∷ cs) (n ∷ ns) h = ap₂ (λ (m : ℕ) (ms : List ℕ). m ∷ ms) (call-always c n (h .0)) (list-always cs ns (h .1))
