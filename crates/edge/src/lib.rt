@@ -85,10 +85,7 @@ fn push_down(
     requires { ⌜ height ≤ 4096 ⌝ }
     ensures { λ r. ⌜ Pushed (now (floats .entry)) (now (floats .exit)) edges count r 1 (slopedOf height xa ya xb yb down) ⌝ }
 {
-    if yb <= 0.0 {
-        return count;
-    }
-    if ya >= float::from_whole(height) {
+    if yb <= 0.0 || ya >= float::from_whole(height) {
         return count;
     }
     let e = Edge {

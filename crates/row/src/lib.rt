@@ -49,11 +49,9 @@ pub fn add(cells: &mut [f32], touched: &mut [u64], cell: usize, area: f32)
     ensures { λ _. ⌜ now (cells .exit) ≡ addOf (now (cells .entry)) cell area ⌝ }
     ensures { λ _. ⌜ Ready (now (cells .exit)) (now (touched .exit)) ⌝ }
 {
-    if cell < cells.len() {
-        if area != 0.0 {
-            cells[cell] = cells[cell] + area;
-            mark(touched, cell, 1);
-        }
+    if cell < cells.len() && area != 0.0 {
+        cells[cell] = cells[cell] + area;
+        mark(touched, cell, 1);
     }
 }
 

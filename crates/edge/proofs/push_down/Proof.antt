@@ -1,5 +1,6 @@
 -- `edge::push_down` meets its contract. Assumes nothing.
 use mathlib.Core.Path.{sym, ap, _∙_, subst}
+use mathlib.Core.Logic.{⊎-elim}
 use native.Mathlib.Omega.{arith}
 use lib.Ieee.{Float, le}
 use Rattle.edge.specs.Stored.{Pushed}
@@ -11,16 +12,12 @@ use Rattle.edge.proofs.push_down.Tie as tie
 returns : tie.Need-returns
 returns c =
     let args = c .before .before .args in
-    subst (Pushed (args .floats .now) (args .floats .now) (args .edges) (args .count) (args .count) 1) (sloped-above (args .height) (args .xa) (args .ya) (args .xb) (args .yb) (args .down) (c .if1 .taken)) (pushed-none (args .floats .now) (args .edges) (args .count) 1)
+    let none = ⊎-elim (λ above. sloped-above (args .height) (args .xa) (args .ya) (args .xb) (args .yb) (args .down) (above .taken))
+        (λ below. sloped-below (args .height) (args .xa) (args .ya) (args .xb) (args .yb) (args .down) (below .0 .left) (ap (λ (x : Float). le x (args .ya)) (sym (below .1 .ensures)) ∙ below .2 .taken)) (c .if1 .came) in
+    subst (Pushed (args .floats .now) (args .floats .now) (args .edges) (args .count) (args .count) 1) none (pushed-none (args .floats .now) (args .edges) (args .count) 1)
 
 from-whole-requires : tie.Need-from-whole-requires
 from-whole-requires c κs = let h = c .before .before .pre .1 in omega arith
-
-returns-2 : tie.Need-returns-2
-returns-2 c =
-    let args = c .before .before .before .before .args in
-    let at-height = ap (λ (x : Float). le x (args .ya)) (sym (c .before .from-whole .ensures)) ∙ c .if2 .taken in
-    subst (Pushed (args .floats .now) (args .floats .now) (args .edges) (args .count) (args .count) 1) (sloped-below (args .height) (args .xa) (args .ya) (args .xb) (args .yb) (args .down) (c .before .before .if1 .left) at-height) (pushed-none (args .floats .now) (args .edges) (args .count) 1)
 
 mul-store : tie.Need-mul-store
 mul-store c = search needs
@@ -37,8 +34,8 @@ add-result c = search needs
 same-length : tie.Need-same-length
 same-length c = search needs
 
-returns-3 : tie.Need-returns-3
-returns-3 c =
+returns-2 : tie.Need-returns-2
+returns-2 c =
     let args = c .before .before .before .before .before .before .before .before .args in
     let at-height = ap (λ (x : Float). le x (args .ya)) (sym (c .before .before .before .before .before .from-whole .ensures)) ∙ c .before .before .before .before .if2 .left in
     rw (c .before .before .store .ensures) (subst (Pushed (args .floats .now) _ (args .edges) (args .count) _ 1) (sloped-one (args .height) (args .xa) (args .ya) (args .xb) (args .yb) (args .down) (c .before .before .before .before .before .before .if1 .left) at-height) (pushed-one (args .floats .now) (args .edges) (args .count) (edgeDown (args .height) (args .xa) (args .ya) (args .xb) (args .yb) (args .down)) (c .before .before .before .before .before .before .before .before .pre .0)))
@@ -47,12 +44,11 @@ pub push-down-spec : {M : Type 1} → statement M
 push-down-spec =
     tie.close
     (tie.spec
-    returns
     from-whole-requires
-    returns-2
+    returns
     mul-store
     add-store
     store-requires
     add-result
     same-length
-    returns-3)
+    returns-2)

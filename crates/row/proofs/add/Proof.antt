@@ -1,4 +1,5 @@
 -- `row::add` meets its contract: one cell changes, and it is marked. Assumes nothing.
+use mathlib.Core.Logic.{⊎-elim}
 use native.Mathlib.Omega.{arith}
 use lib.ListN.{length-set}
 use Rattle.row.proofs.Marks.{ready-marked}
@@ -35,10 +36,10 @@ returns c =
     (add-in (a .cells .now) (a .cell) (a .area) (c .before .before .before .before .before .before .if1 .taken) (c .before .before .before .before .before .if2 .taken), ready-marked (a .cells .now) _ (a .touched .now) (mark .last .0) (a .cell) _ (c .before .before .before .before .before .before .before .before .before .pre) (mark .ensures) (length-set (a .cells .now) (a .cell) _) (set-apart (a .cells .now) (a .cell) _))
 
 returns-2 : tie.Need-returns-2
-returns-2 c = (add-none (c .before .before .before .before .args .cells .now) _ _ (c .if2 .left), c .before .before .before .before .pre)
-
-returns-3 : tie.Need-returns-3
-returns-3 c = (add-out (c .before .before .before .args .cells .now) _ _ (c .if1 .left), c .before .before .before .pre)
+returns-2 c =
+    let a = c .before .before .before .args in
+    let kept = ⊎-elim (λ both. add-none (a .cells .now) (a .cell) (a .area) (both .1 .left)) (λ past. add-out (a .cells .now) (a .cell) (a .area) (past .left)) (c .if1 .came) in
+    (kept, c .before .before .before .pre)
 
 pub add-spec : {M : Type 1} → statement M
 add-spec =
@@ -52,5 +53,4 @@ add-spec =
     same-length
     same-length-2
     returns
-    returns-2
-    returns-3)
+    returns-2)
