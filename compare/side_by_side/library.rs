@@ -2,10 +2,10 @@
 
 pub const DONE: u8 = 0;
 pub const TOO_SHORT: u8 = 4;
-pub const NONE: u8 = 13;
-pub const YES: u8 = 14;
-pub const NO: u8 = 15;
-pub const NO_FRAME: u8 = 16;
+pub const NONE: u8 = 32;
+pub const YES: u8 = 33;
+pub const NO: u8 = 34;
+pub const NO_FRAME: u8 = 35;
 /// The number of place 0 of a touch list.
 pub const FIRST_PLACE: u32 = 256;
 

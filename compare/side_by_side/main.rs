@@ -24,13 +24,18 @@ use std::{
     time::{Duration, Instant},
 };
 
-/// Numbers 0 to 16; a place counts as done.
-const ANSWERS: usize = 17;
+/// The numbers that are shown beside done, as which a place counts, and the table's causes.
+const OUTCOMES: [(u8, &str); 4] = [
+    (library::NONE, "none"),
+    (library::YES, "yes"),
+    (library::NO, "no"),
+    (library::NO_FRAME, "no frame"),
+];
 
 /// Everything that is counted.
 #[derive(Default)]
 struct Counts {
-    answers: BTreeMap<&'static str, [u64; ANSWERS]>,
+    answers: BTreeMap<&'static str, BTreeMap<u8, u64>>,
     compared: u64,
     differ: u64,
     chains: u64,
@@ -40,7 +45,7 @@ struct Counts {
 impl Counts {
     fn answer(&mut self, kind: &'static str, number: u8) {
         self.compared += 1;
-        self.answers.entry(kind).or_default()[number as usize] += 1;
+        *self.answers.entry(kind).or_default().entry(number).or_default() += 1;
     }
 
     fn difference(&mut self, difference: &str, calls: &impl std::fmt::Display) {
@@ -50,17 +55,18 @@ impl Counts {
     }
 
     fn show(&self) {
-        let heads = (1..13).map(|number| number.to_string());
-        let heads = std::iter::once("done".into())
-            .chain(heads)
-            .chain(["none", "yes", "no", "no frame"].map(String::from));
+        let causes = (1..=12).map(|number| (number, number.to_string()));
+        let columns: Vec<(u8, String)> = std::iter::once((library::DONE, "done".into()))
+            .chain(causes)
+            .chain(OUTCOMES.map(|(number, name)| (number, name.into())))
+            .collect();
         print!("{:18}", "");
-        heads.for_each(|head| print!("{head:>9}"));
+        columns.iter().for_each(|(_, head)| print!("{head:>9}"));
         println!();
         for (kind, numbers) in &self.answers {
             print!("{kind:18}");
-            for count in numbers {
-                let shown = (*count > 0).then(|| count.to_string());
+            for (number, _) in &columns {
+                let shown = numbers.get(number).map(u64::to_string);
                 print!("{:>9}", shown.unwrap_or("-".into()));
             }
             println!();

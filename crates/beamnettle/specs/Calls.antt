@@ -1,5 +1,5 @@
 -- The exported calls, outright: document 01's answers as numbers, and what is lent afterwards; touch by its rule. Definitions only.
-use Prim.Native.Nat.{ℕ, _+_}
+use Prim.Native.Nat.{ℕ}
 use mathlib.Core.Path.{_≡_}
 use mathlib.Core.Bool.{cond}
 use mathlib.Core.List.{List, [], _∷_}
@@ -28,33 +28,34 @@ use Rattle.touch.specs.declared.TouchAnswer.{TouchAnswer}
 use Rattle.touch.specs.declared.TouchAnswer.the-variants as touched
 use Rattle.touch.specs.Touch.{TouchRule}
 use Rattle.beamnettle.specs.Lent.{frameIn, boxIn, coverageIn, boxFloats, coverageFloats, boundsFloats, over}
+use Rattle.beamnettle.specs.Outcomes.{ordinaryNumber, done, none, yes, no, noFrame, place}
 
--- ---- an answer's number: 'A call is done, or turned away by number.' Done is 0; "no box", an ordinary outcome of a done call, is 13; yes is 14 and no 15
+-- ---- an answer's number: 'A call is done, or turned away by number.' The numbers of ordinary outcomes: Outcomes.antt
 
 abbrev pub outcomeNumber : Outcome → ℕ
 outcomeNumber drawn.Done = 0
 outcomeNumber (drawn.Refused f) = numberOf f
 
 abbrev pub boxNumber : BoxAnswer → ℕ
-boxNumber (box.Box b) = 0
-boxNumber box.NoBox = 13
+boxNumber (box.Box b) = ordinaryNumber done
+boxNumber box.NoBox = ordinaryNumber none
 boxNumber (box.Refused f) = numberOf f
 
 abbrev pub coverageNumber : CoverageAnswer → ℕ
-coverageNumber (covered.Coverage k) = 0
-coverageNumber covered.NoCoverage = 13
+coverageNumber (covered.Coverage k) = ordinaryNumber done
+coverageNumber covered.NoCoverage = ordinaryNumber none
 coverageNumber (covered.Refused f) = numberOf f
 
 abbrev pub boundsNumber : BoundsAnswer → ℕ
-boundsNumber (bounds.Bounds b) = 0
+boundsNumber (bounds.Bounds b) = ordinaryNumber done
 boundsNumber (bounds.Refused f) = numberOf f
 
 abbrev pub distanceNumber : DistanceAnswer → ℕ
-distanceNumber (distance.Distance x) = 0
+distanceNumber (distance.Distance x) = ordinaryNumber done
 distanceNumber (distance.Refused f) = numberOf f
 
 abbrev pub testNumber : TestAnswer → ℕ
-testNumber (test.Done found) = cond found 14 15
+testNumber (test.Done found) = cond found (ordinaryNumber yes) (ordinaryNumber no)
 testNumber (test.Refused f) = numberOf f
 
 -- ---- what is lent for an answer, afterwards: 'Left as it was: all lent' where the call is turned away
@@ -124,11 +125,11 @@ containsLent k b =
     cond (ltb (length k) 11) (test.Refused BufferTooShort)
     (cond (ltb (length b) 10) (test.Refused BufferTooShort) (containsCall (coverageIn k) (boxIn b)))
 
--- ---- touch. "No frame", an ordinary outcome of a done call, is 16; the place k, 'as a byte counted from 0', is 256 + k
+-- ---- touch: 'the place of some box .. as a byte counted from 0', or "no frame"
 
 abbrev pub touchNumber : TouchAnswer → ℕ
-touchNumber (touched.Frame k) = 256 + k
-touchNumber touched.NoFrame = 16
+touchNumber (touched.Frame k) = ordinaryNumber (place k)
+touchNumber touched.NoFrame = ordinaryNumber noFrame
 touchNumber (touched.Refused f) = numberOf f
 
 -- a number is that of an answer which the touch rule allows

@@ -26,13 +26,14 @@ const DONE: u8 = 0;
 
 const TOO_SHORT: u8 = 4;
 
-const NONE: u8 = 13;
+const NONE: u8 = 32;
 
-const YES: u8 = 14;
+const YES: u8 = 33;
 
-const NO: u8 = 15;
+const NO: u8 = 34;
 
-const NO_FRAME: u32 = 16;
+const NO_FRAME: u32 = 35;
+
 // A place is answered above all other numbers.
 const FIRST_PLACE: u32 = 256;
 

@@ -11,7 +11,7 @@ enum-known-answer : tie.Need-enum-known-answer
 enum-known-answer c = search needs
 
 returns : tie.Need-returns
-returns c = sym (ap (λ (t : Bool). cond t 14 15) (c .if1 .taken)) ∙ ap testNumber (sym (c .before .before .answer .given .1))
+returns c = sym (ap (λ (t : Bool). cond t 33 34) (c .if1 .taken)) ∙ ap testNumber (sym (c .before .before .answer .given .1))
 
 enum-known-answer-2 : tie.Need-enum-known-answer-2
 enum-known-answer-2 c = search needs
@@ -20,7 +20,7 @@ number-requires : tie.Need-number-requires
 number-requires c κs = search needs
 
 returns-2 : tie.Need-returns-2
-returns-2 c = sym (ap (λ (t : Bool). cond t 14 15) (c .if1 .left)) ∙ ap testNumber (sym (c .before .before .answer .given .1))
+returns-2 c = sym (ap (λ (t : Bool). cond t 33 34) (c .if1 .left)) ∙ ap testNumber (sym (c .before .before .answer .given .1))
 
 returns-3 : tie.Need-returns-3
 returns-3 c = c .number .ensures ∙ ap testNumber (sym (c .before .before .answer2 .given .1))
