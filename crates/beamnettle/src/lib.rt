@@ -164,19 +164,36 @@ fn put(out: &mut [f32], floats: &[f32])
 
 // ---- answers, handed over
 
+fn box_number(answer: BoxAnswer) -> u8
+    ensures { λ r. ⌜ r ≡ boxNumber answer ⌝ }
+{
+    match answer {
+        BoxAnswer::Box(_) => DONE,
+        BoxAnswer::NoBox => NONE,
+        BoxAnswer::Refused(fault) => fault.number(),
+    }
+}
+
 fn hand_box(answer: BoxAnswer, out: &mut [f32]) -> u8
     requires { ⌜ 10 ≤ length (now out) ⌝ }
     ensures { λ r. ⌜ r ≡ boxNumber answer ⌝ }
     ensures { λ _. ⌜ now (out .exit) ≡ boxAfter answer (now (out .entry)) ⌝ }
 {
+    let BoxAnswer::Box(b) = answer else {
+        return box_number(answer);
+    };
+    let f = b.frame;
+    put(out, &[f.a, f.b, f.c, f.d, f.x, f.y, b.ex, b.ey, b.rx, b.ry]);
+    DONE
+}
+
+fn coverage_number(answer: CoverageAnswer) -> u8
+    ensures { λ r. ⌜ r ≡ coverageNumber answer ⌝ }
+{
     match answer {
-        BoxAnswer::Box(b) => {
-            let f = b.frame;
-            put(out, &[f.a, f.b, f.c, f.d, f.x, f.y, b.ex, b.ey, b.rx, b.ry]);
-            DONE
-        }
-        BoxAnswer::NoBox => NONE,
-        BoxAnswer::Refused(fault) => fault.number(),
+        CoverageAnswer::Coverage(_) => DONE,
+        CoverageAnswer::NoCoverage => NONE,
+        CoverageAnswer::Refused(fault) => fault.number(),
     }
 }
 
@@ -185,29 +202,26 @@ fn hand_coverage(answer: CoverageAnswer, out: &mut [f32]) -> u8
     ensures { λ r. ⌜ r ≡ coverageNumber answer ⌝ }
     ensures { λ _. ⌜ now (out .exit) ≡ coverageAfter answer (now (out .entry)) ⌝ }
 {
-    match answer {
-        CoverageAnswer::Coverage(k) => {
-            put(
-                out,
-                &[
-                    k.la,
-                    k.lb,
-                    k.lc,
-                    k.ld,
-                    k.ox,
-                    k.oy,
-                    k.ex,
-                    k.ey,
-                    k.rx,
-                    k.ry,
-                    k.strays,
-                ],
-            );
-            DONE
-        }
-        CoverageAnswer::NoCoverage => NONE,
-        CoverageAnswer::Refused(fault) => fault.number(),
-    }
+    let CoverageAnswer::Coverage(k) = answer else {
+        return coverage_number(answer);
+    };
+    put(
+        out,
+        &[
+            k.la,
+            k.lb,
+            k.lc,
+            k.ld,
+            k.ox,
+            k.oy,
+            k.ex,
+            k.ey,
+            k.rx,
+            k.ry,
+            k.strays,
+        ],
+    );
+    DONE
 }
 
 fn hand_bounds(answer: BoundsAnswer, out: &mut [f32]) -> u8
