@@ -284,13 +284,7 @@ pub extern "C" fn beamnettle_transformed(b: &[f32], frame: &[f32], out: &mut [f3
     ensures { λ r. ⌜ r ≡ boxNumber (transformedLent (now (b .entry)) (now (frame .entry)) (now (out .entry))) ⌝ }
     ensures { λ _. ⌜ now (out .exit) ≡ boxAfter (transformedLent (now (b .entry)) (now (frame .entry)) (now (out .entry))) (now (out .entry)) ⌝ }
 {
-    if b.len() < BOX {
-        return TOO_SHORT;
-    }
-    if frame.len() < FRAME {
-        return TOO_SHORT;
-    }
-    if out.len() < BOX {
+    if b.len() < BOX || frame.len() < FRAME || out.len() < BOX {
         return TOO_SHORT;
     }
     hand_box(box_in(b).transformed(frame_in(frame)), out)
@@ -306,13 +300,7 @@ pub extern "C" fn beamnettle_intersection(
     ensures { λ r. ⌜ r ≡ boxNumber (intersectionLent (now (one .entry)) (now (two .entry)) fringe (now (out .entry))) ⌝ }
     ensures { λ _. ⌜ now (out .exit) ≡ boxAfter (intersectionLent (now (one .entry)) (now (two .entry)) fringe (now (out .entry))) (now (out .entry)) ⌝ }
 {
-    if one.len() < BOX {
-        return TOO_SHORT;
-    }
-    if two.len() < BOX {
-        return TOO_SHORT;
-    }
-    if out.len() < BOX {
+    if one.len() < BOX || two.len() < BOX || out.len() < BOX {
         return TOO_SHORT;
     }
     hand_box(box_in(one).intersection(box_in(two), fringe), out)
@@ -323,13 +311,7 @@ pub extern "C" fn beamnettle_rect_intersection(one: &[f32], two: &[f32], out: &m
     ensures { λ r. ⌜ r ≡ boxNumber (rectIntersectionLent (now (one .entry)) (now (two .entry)) (now (out .entry))) ⌝ }
     ensures { λ _. ⌜ now (out .exit) ≡ boxAfter (rectIntersectionLent (now (one .entry)) (now (two .entry)) (now (out .entry))) (now (out .entry)) ⌝ }
 {
-    if one.len() < BOX {
-        return TOO_SHORT;
-    }
-    if two.len() < BOX {
-        return TOO_SHORT;
-    }
-    if out.len() < BOX {
+    if one.len() < BOX || two.len() < BOX || out.len() < BOX {
         return TOO_SHORT;
     }
     hand_box(box_in(one).rect_intersection(box_in(two)), out)
@@ -340,10 +322,7 @@ pub extern "C" fn beamnettle_coverage(b: &[f32], fringe: f32, out: &mut [f32]) -
     ensures { λ r. ⌜ r ≡ coverageNumber (coverageLent (now (b .entry)) fringe (now (out .entry))) ⌝ }
     ensures { λ _. ⌜ now (out .exit) ≡ coverageAfter (coverageLent (now (b .entry)) fringe (now (out .entry))) (now (out .entry)) ⌝ }
 {
-    if b.len() < BOX {
-        return TOO_SHORT;
-    }
-    if out.len() < COVERAGE {
+    if b.len() < BOX || out.len() < COVERAGE {
         return TOO_SHORT;
     }
     hand_coverage(box_in(b).coverage(fringe), out)
@@ -354,10 +333,7 @@ pub extern "C" fn beamnettle_bounds(b: &[f32], out: &mut [f32]) -> u8
     ensures { λ r. ⌜ r ≡ boundsNumber (boundsLent (now (b .entry)) (now (out .entry))) ⌝ }
     ensures { λ _. ⌜ now (out .exit) ≡ boundsAfter (boundsLent (now (b .entry)) (now (out .entry))) (now (out .entry)) ⌝ }
 {
-    if b.len() < BOX {
-        return TOO_SHORT;
-    }
-    if out.len() < BOUNDS {
+    if b.len() < BOX || out.len() < BOUNDS {
         return TOO_SHORT;
     }
     hand_bounds(box_in(b).bounds(), out)
@@ -368,10 +344,7 @@ pub extern "C" fn beamnettle_distance(k: &[f32], x: f32, y: f32, out: &mut [f32]
     ensures { λ r. ⌜ r ≡ distanceNumber (distanceLent (now (k .entry)) x y (now (out .entry))) ⌝ }
     ensures { λ _. ⌜ now (out .exit) ≡ distanceAfter (distanceLent (now (k .entry)) x y (now (out .entry))) (now (out .entry)) ⌝ }
 {
-    if k.len() < COVERAGE {
-        return TOO_SHORT;
-    }
-    if out.len() < 1 {
+    if k.len() < COVERAGE || out.len() < 1 {
         return TOO_SHORT;
     }
     hand_distance(coverage_in(k).distance(Position { x, y }), out)
@@ -381,10 +354,7 @@ pub extern "C" fn beamnettle_distance(k: &[f32], x: f32, y: f32, out: &mut [f32]
 pub extern "C" fn beamnettle_parallel(one: &[f32], two: &[f32]) -> u8
     ensures { λ r. ⌜ r ≡ testNumber (parallelLent (now (one .entry)) (now (two .entry))) ⌝ }
 {
-    if one.len() < BOX {
-        return TOO_SHORT;
-    }
-    if two.len() < BOX {
+    if one.len() < BOX || two.len() < BOX {
         return TOO_SHORT;
     }
     test_number(box_in(one).parallel(box_in(two)))
@@ -394,10 +364,7 @@ pub extern "C" fn beamnettle_parallel(one: &[f32], two: &[f32]) -> u8
 pub extern "C" fn beamnettle_contains(k: &[f32], b: &[f32]) -> u8
     ensures { λ r. ⌜ r ≡ testNumber (containsLent (now (k .entry)) (now (b .entry))) ⌝ }
 {
-    if k.len() < COVERAGE {
-        return TOO_SHORT;
-    }
-    if b.len() < BOX {
+    if k.len() < COVERAGE || b.len() < BOX {
         return TOO_SHORT;
     }
     test_number(coverage_in(k).contains(box_in(b)))

@@ -1,5 +1,8 @@
 -- `beamnettle::beamnettle_bounds` meets its contract. Assumes nothing.
 use borrow.Author.Needs.{needs}
+use borrow.Author.Tests.{ltb-true, ltb-false}
+use mathlib.Core.Logic.{⊎-elim}
+use lib.ListN.{length}
 use mathlib.Core.Path.{_≡_, ap, _∙_}
 use Rattle.fault.specs.declared.Fault.the-variants.{BufferTooShort}
 use Rattle.shape.specs.declared.RoundedBox.{RoundedBox}
@@ -15,13 +18,7 @@ use Rattle.beamnettle.proofs.beamnettle_bounds.Tie as tie
 returns : tie.Need-returns
 returns c =
     let args = c .before .before .before .args in
-    let e : Refused BufferTooShort ≡ boundsLent (args .b .now) (args .out .now) = turned _ _ _ _ (c .if1 .taken) in
-    (ap boundsNumber e, ap (λ (a : BoundsAnswer). boundsAfter a (args .out .now)) e)
-
-returns-2 : tie.Need-returns-2
-returns-2 c =
-    let args = c .before .before .before .before .args in
-    let e : Refused BufferTooShort ≡ boundsLent (args .b .now) (args .out .now) = turned _ _ _ _ (c .if2 .taken) ∙ kept _ _ _ _ (c .before .if1 .left) in
+    let e : Refused BufferTooShort ≡ boundsLent (args .b .now) (args .out .now) = ⊎-elim (λ w. turned _ _ _ _ (w .taken)) (λ w. turned (length (args .out .now)) 4 _ _ (ltb-true _ _ (w .1 .taken)) ∙ kept _ _ _ _ (w .0 .left)) (c .if1 .came) in
     (ap boundsNumber e, ap (λ (a : BoundsAnswer). boundsAfter a (args .out .now)) e)
 
 box-in-requires : tie.Need-box-in-requires
@@ -36,8 +33,8 @@ hand-bounds-requires c κs = search needs
 same-length : tie.Need-same-length
 same-length c = search needs
 
-returns-3 : tie.Need-returns-3
-returns-3 c =
+returns-2 : tie.Need-returns-2
+returns-2 c =
     let args = c .before .before .before .before .before .before .before .before .before .before .args in
     let at-bounds = c .before .before .before .before .bounds in
     let at-box-in = c .before .before .before .before .before .box-in in
@@ -45,7 +42,7 @@ returns-3 c =
     let told : at-bounds .result ≡ boundsLent (args .b .now) (args .out .now) =
     at-bounds .ensures
     ∙ ap (λ (v : RoundedBox). boundsCall v) (at-box-in .ensures)
-    ∙ kept _ _ _ _ (c .before .before .before .before .before .before .if2 .left)
+    ∙ kept (length (args .out .now)) 4 _ _ (ltb-false _ _ (c .before .before .before .before .before .before .if2 .left))
     ∙ kept _ _ _ _ (c .before .before .before .before .before .before .before .if1 .left) in
     (at-hand-bounds .ensures .0 ∙ ap boundsNumber told, at-hand-bounds .ensures .1 ∙ ap (λ (a : BoundsAnswer). boundsAfter a (args .out .now)) told)
 
@@ -54,9 +51,8 @@ beamnettle-bounds-spec =
     tie.close
     (tie.spec
     returns
-    returns-2
     box-in-requires
     bounds-requires
     hand-bounds-requires
     same-length
-    returns-3)
+    returns-2)

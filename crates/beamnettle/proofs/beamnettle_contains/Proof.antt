@@ -1,5 +1,8 @@
 -- `beamnettle::beamnettle_contains` meets its contract. Assumes nothing.
 use borrow.Author.Needs.{needs}
+use borrow.Author.Tests.{ltb-true, ltb-false}
+use mathlib.Core.Logic.{⊎-elim}
+use lib.ListN.{length}
 use mathlib.Core.Path.{_≡_, ap, _∙_}
 use Rattle.fault.specs.declared.Fault.the-variants.{BufferTooShort}
 use Rattle.shape.specs.declared.ClipCoverage.{ClipCoverage}
@@ -16,13 +19,7 @@ use Rattle.beamnettle.proofs.beamnettle_contains.Tie as tie
 returns : tie.Need-returns
 returns c =
     let args = c .before .before .before .args in
-    let e : Refused BufferTooShort ≡ containsLent (args .k .now) (args .b .now) = turned _ _ _ _ (c .if1 .taken) in
-    ap testNumber e
-
-returns-2 : tie.Need-returns-2
-returns-2 c =
-    let args = c .before .before .before .before .args in
-    let e : Refused BufferTooShort ≡ containsLent (args .k .now) (args .b .now) = turned _ _ _ _ (c .if2 .taken) ∙ kept _ _ _ _ (c .before .if1 .left) in
+    let e : Refused BufferTooShort ≡ containsLent (args .k .now) (args .b .now) = ⊎-elim (λ w. turned _ _ _ _ (w .taken)) (λ w. turned (length (args .b .now)) 10 _ _ (ltb-true _ _ (w .1 .taken)) ∙ kept _ _ _ _ (w .0 .left)) (c .if1 .came) in
     ap testNumber e
 
 coverage-in-requires : tie.Need-coverage-in-requires
@@ -37,8 +34,8 @@ contains-requires c κs = search needs
 test-number-requires : tie.Need-test-number-requires
 test-number-requires c κs = search needs
 
-returns-3 : tie.Need-returns-3
-returns-3 c =
+returns-2 : tie.Need-returns-2
+returns-2 c =
     let args = c .before .before .before .before .before .before .before .before .args in
     let at-contains = c .before .contains in
     let at-coverage-in = c .before .before .before .coverage-in in
@@ -48,7 +45,7 @@ returns-3 c =
     at-contains .ensures
     ∙ ap (λ (v : ClipCoverage). containsCall v (at-box-in .result)) (at-coverage-in .ensures)
     ∙ ap (λ (v : RoundedBox). containsCall (coverageIn (args .k .now)) v) (at-box-in .ensures)
-    ∙ kept _ _ _ _ (c .before .before .before .before .if2 .left)
+    ∙ kept (length (args .b .now)) 10 _ _ (ltb-false _ _ (c .before .before .before .before .if2 .left))
     ∙ kept _ _ _ _ (c .before .before .before .before .before .if1 .left) in
     at-test-number .ensures ∙ ap testNumber told
 
@@ -57,9 +54,8 @@ beamnettle-contains-spec =
     tie.close
     (tie.spec
     returns
-    returns-2
     coverage-in-requires
     box-in-requires
     contains-requires
     test-number-requires
-    returns-3)
+    returns-2)

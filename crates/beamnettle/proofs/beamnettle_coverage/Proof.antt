@@ -1,5 +1,8 @@
 -- `beamnettle::beamnettle_coverage` meets its contract. Assumes nothing.
 use borrow.Author.Needs.{needs}
+use borrow.Author.Tests.{ltb-true, ltb-false}
+use mathlib.Core.Logic.{⊎-elim}
+use lib.ListN.{length}
 use mathlib.Core.Path.{_≡_, ap, _∙_}
 use Rattle.fault.specs.declared.Fault.the-variants.{BufferTooShort}
 use Rattle.shape.specs.declared.RoundedBox.{RoundedBox}
@@ -15,13 +18,7 @@ use Rattle.beamnettle.proofs.beamnettle_coverage.Tie as tie
 returns : tie.Need-returns
 returns c =
     let args = c .before .before .before .args in
-    let e : Refused BufferTooShort ≡ coverageLent (args .b .now) (args .fringe) (args .out .now) = turned _ _ _ _ (c .if1 .taken) in
-    (ap coverageNumber e, ap (λ (a : CoverageAnswer). coverageAfter a (args .out .now)) e)
-
-returns-2 : tie.Need-returns-2
-returns-2 c =
-    let args = c .before .before .before .before .args in
-    let e : Refused BufferTooShort ≡ coverageLent (args .b .now) (args .fringe) (args .out .now) = turned _ _ _ _ (c .if2 .taken) ∙ kept _ _ _ _ (c .before .if1 .left) in
+    let e : Refused BufferTooShort ≡ coverageLent (args .b .now) (args .fringe) (args .out .now) = ⊎-elim (λ w. turned _ _ _ _ (w .taken)) (λ w. turned (length (args .out .now)) 11 _ _ (ltb-true _ _ (w .1 .taken)) ∙ kept _ _ _ _ (w .0 .left)) (c .if1 .came) in
     (ap coverageNumber e, ap (λ (a : CoverageAnswer). coverageAfter a (args .out .now)) e)
 
 box-in-requires : tie.Need-box-in-requires
@@ -36,8 +33,8 @@ hand-coverage-requires c κs = search needs
 same-length : tie.Need-same-length
 same-length c = search needs
 
-returns-3 : tie.Need-returns-3
-returns-3 c =
+returns-2 : tie.Need-returns-2
+returns-2 c =
     let args = c .before .before .before .before .before .before .before .before .before .before .args in
     let at-coverage = c .before .before .before .before .coverage in
     let at-box-in = c .before .before .before .before .before .box-in in
@@ -45,7 +42,7 @@ returns-3 c =
     let told : at-coverage .result ≡ coverageLent (args .b .now) (args .fringe) (args .out .now) =
     at-coverage .ensures
     ∙ ap (λ (v : RoundedBox). coverageCall v (args .fringe)) (at-box-in .ensures)
-    ∙ kept _ _ _ _ (c .before .before .before .before .before .before .if2 .left)
+    ∙ kept (length (args .out .now)) 11 _ _ (ltb-false _ _ (c .before .before .before .before .before .before .if2 .left))
     ∙ kept _ _ _ _ (c .before .before .before .before .before .before .before .if1 .left) in
     (at-hand-coverage .ensures .0 ∙ ap coverageNumber told, at-hand-coverage .ensures .1 ∙ ap (λ (a : CoverageAnswer). coverageAfter a (args .out .now)) told)
 
@@ -54,9 +51,8 @@ beamnettle-coverage-spec =
     tie.close
     (tie.spec
     returns
-    returns-2
     box-in-requires
     coverage-requires
     hand-coverage-requires
     same-length
-    returns-3)
+    returns-2)

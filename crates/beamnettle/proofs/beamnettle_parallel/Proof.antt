@@ -1,5 +1,8 @@
 -- `beamnettle::beamnettle_parallel` meets its contract. Assumes nothing.
 use borrow.Author.Needs.{needs}
+use borrow.Author.Tests.{ltb-true, ltb-false}
+use mathlib.Core.Logic.{⊎-elim}
+use lib.ListN.{length}
 use mathlib.Core.Path.{_≡_, ap, _∙_}
 use Rattle.fault.specs.declared.Fault.the-variants.{BufferTooShort}
 use Rattle.shape.specs.declared.RoundedBox.{RoundedBox}
@@ -15,13 +18,7 @@ use Rattle.beamnettle.proofs.beamnettle_parallel.Tie as tie
 returns : tie.Need-returns
 returns c =
     let args = c .before .before .before .args in
-    let e : Refused BufferTooShort ≡ parallelLent (args .one .now) (args .two .now) = turned _ _ _ _ (c .if1 .taken) in
-    ap testNumber e
-
-returns-2 : tie.Need-returns-2
-returns-2 c =
-    let args = c .before .before .before .before .args in
-    let e : Refused BufferTooShort ≡ parallelLent (args .one .now) (args .two .now) = turned _ _ _ _ (c .if2 .taken) ∙ kept _ _ _ _ (c .before .if1 .left) in
+    let e : Refused BufferTooShort ≡ parallelLent (args .one .now) (args .two .now) = ⊎-elim (λ w. turned _ _ _ _ (w .taken)) (λ w. turned (length (args .two .now)) 10 _ _ (ltb-true _ _ (w .1 .taken)) ∙ kept _ _ _ _ (w .0 .left)) (c .if1 .came) in
     ap testNumber e
 
 box-in-requires : tie.Need-box-in-requires
@@ -36,8 +33,8 @@ parallel-requires c κs = search needs
 test-number-requires : tie.Need-test-number-requires
 test-number-requires c κs = search needs
 
-returns-3 : tie.Need-returns-3
-returns-3 c =
+returns-2 : tie.Need-returns-2
+returns-2 c =
     let args = c .before .before .before .before .before .before .before .before .args in
     let at-parallel = c .before .parallel in
     let at-box-in = c .before .before .before .box-in in
@@ -47,7 +44,7 @@ returns-3 c =
     at-parallel .ensures
     ∙ ap (λ (v : RoundedBox). parallelCall v (at-box-in2 .result)) (at-box-in .ensures)
     ∙ ap (λ (v : RoundedBox). parallelCall (boxIn (args .one .now)) v) (at-box-in2 .ensures)
-    ∙ kept _ _ _ _ (c .before .before .before .before .if2 .left)
+    ∙ kept (length (args .two .now)) 10 _ _ (ltb-false _ _ (c .before .before .before .before .if2 .left))
     ∙ kept _ _ _ _ (c .before .before .before .before .before .if1 .left) in
     at-test-number .ensures ∙ ap testNumber told
 
@@ -56,9 +53,8 @@ beamnettle-parallel-spec =
     tie.close
     (tie.spec
     returns
-    returns-2
     box-in-requires
     box-in-requires-2
     parallel-requires
     test-number-requires
-    returns-3)
+    returns-2)

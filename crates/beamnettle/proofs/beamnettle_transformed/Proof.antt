@@ -1,5 +1,8 @@
 -- `beamnettle::beamnettle_transformed` meets its contract. Assumes nothing.
 use borrow.Author.Needs.{needs}
+use borrow.Author.Tests.{ltb-true, ltb-false}
+use mathlib.Core.Logic.{⊎-elim}
+use lib.ListN.{length}
 use mathlib.Core.Path.{_≡_, ap, _∙_}
 use Rattle.fault.specs.declared.Fault.the-variants.{BufferTooShort}
 use Rattle.shape.specs.declared.RoundedBox.{RoundedBox}
@@ -16,19 +19,11 @@ use Rattle.beamnettle.proofs.beamnettle_transformed.Tie as tie
 returns : tie.Need-returns
 returns c =
     let args = c .before .before .before .before .args in
-    let e : Refused BufferTooShort ≡ transformedLent (args .b .now) (args .frame .now) (args .out .now) = turned _ _ _ _ (c .if1 .taken) in
-    (ap boxNumber e, ap (λ (a : BoxAnswer). boxAfter a (args .out .now)) e)
-
-returns-2 : tie.Need-returns-2
-returns-2 c =
-    let args = c .before .before .before .before .before .args in
-    let e : Refused BufferTooShort ≡ transformedLent (args .b .now) (args .frame .now) (args .out .now) = turned _ _ _ _ (c .if2 .taken) ∙ kept _ _ _ _ (c .before .if1 .left) in
-    (ap boxNumber e, ap (λ (a : BoxAnswer). boxAfter a (args .out .now)) e)
-
-returns-3 : tie.Need-returns-3
-returns-3 c =
-    let args = c .before .before .before .before .before .before .args in
-    let e : Refused BufferTooShort ≡ transformedLent (args .b .now) (args .frame .now) (args .out .now) = turned _ _ _ _ (c .if3 .taken) ∙ kept _ _ _ _ (c .before .if2 .left) ∙ kept _ _ _ _ (c .before .before .if1 .left) in
+    let e : Refused BufferTooShort ≡ transformedLent (args .b .now) (args .frame .now) (args .out .now) =
+    ⊎-elim (λ w. turned _ _ _ _ (w .taken))
+    (⊎-elim (λ w. turned (length (args .frame .now)) 6 _ _ (ltb-true _ _ (w .1 .taken)) ∙ kept _ _ _ _ (w .0 .left))
+    (λ w. turned (length (args .out .now)) 10 _ _ (ltb-true _ _ (w .2 .taken)) ∙ kept (length (args .frame .now)) 6 _ _ (ltb-false _ _ (w .1 .left)) ∙ kept _ _ _ _ (w .0 .left)))
+    (c .if1 .came) in
     (ap boxNumber e, ap (λ (a : BoxAnswer). boxAfter a (args .out .now)) e)
 
 box-in-requires : tie.Need-box-in-requires
@@ -46,8 +41,8 @@ hand-box-requires c κs = search needs
 same-length : tie.Need-same-length
 same-length c = search needs
 
-returns-4 : tie.Need-returns-4
-returns-4 c =
+returns-2 : tie.Need-returns-2
+returns-2 c =
     let args = c .before .before .before .before .before .before .before .before .before .before .before .before .before .args in
     let at-transformed = c .before .before .before .before .transformed in
     let at-box-in = c .before .before .before .before .before .before .box-in in
@@ -57,8 +52,8 @@ returns-4 c =
     at-transformed .ensures
     ∙ ap (λ (v : RoundedBox). transformedCall v (at-frame-in .result)) (at-box-in .ensures)
     ∙ ap (λ (v : Transform2D). transformedCall (boxIn (args .b .now)) v) (at-frame-in .ensures)
-    ∙ kept _ _ _ _ (c .before .before .before .before .before .before .before .if3 .left)
-    ∙ kept _ _ _ _ (c .before .before .before .before .before .before .before .before .if2 .left)
+    ∙ kept (length (args .out .now)) 10 _ _ (ltb-false _ _ (c .before .before .before .before .before .before .before .if3 .left))
+    ∙ kept (length (args .frame .now)) 6 _ _ (ltb-false _ _ (c .before .before .before .before .before .before .before .before .if2 .left))
     ∙ kept _ _ _ _ (c .before .before .before .before .before .before .before .before .before .if1 .left) in
     (at-hand-box .ensures .0 ∙ ap boxNumber told, at-hand-box .ensures .1 ∙ ap (λ (a : BoxAnswer). boxAfter a (args .out .now)) told)
 
@@ -67,11 +62,9 @@ beamnettle-transformed-spec =
     tie.close
     (tie.spec
     returns
-    returns-2
-    returns-3
     box-in-requires
     frame-in-requires
     transformed-requires
     hand-box-requires
     same-length
-    returns-4)
+    returns-2)
