@@ -1,13 +1,26 @@
-/* Beamnettle: the kiosk's clip masks and boxes. Link with libbeamnettle.a and -lm.
+/* Beamnettle: the kiosk's clip masks and boxes. For x86-64 Linux; link with libbeamnettle.a and -lm.
  *
  * Every function is proved to return the number and to leave in lent memory exactly what its contract
- * in crates/beamnettle/src/lib.rt says, whatever the numbers are. A lent pointer must be valid for its
- * length, aligned, and not null, even where the length is 0; what is written must not overlap anything
- * else that is lent. Lengths count elements, not bytes. Nothing is kept after a call returns.
+ * in crates/beamnettle/src/lib.rt says, whatever the numbers are.
+ *
+ * Lent memory. Lengths count elements, not bytes. A lent pointer must be valid for its length and
+ * aligned; where the length is 0 it may be anything, NULL too. What is written must not overlap anything
+ * else that is lent. Nothing is kept after a call returns and there is no other state, so calls may run
+ * at the same time in several threads where none writes what another is lent.
  *
  * Where fewer floats are lent than a box, frame, coverage or answer takes, the number is 4, before any
  * other cause. More may be lent: what lies past them is neither read nor changed. On every number but 0
  * all lent memory is left as it was.
+ *
+ * Floats. Calls run with the processor's default settings: rounding to nearest, subnormal numbers kept
+ * (no flush to zero, no denormals are zero). Where these are changed, nothing is promised of an answer.
+ * A done answer may hold NaN or infinities, and numbers of a size over 2^20: the next call that is lent
+ * them as a box refuses them with 1.
+ *
+ * A frame a b c d x y takes a point (px, py) to (a * px + c * py + x, b * px + d * py + y). A box
+ * reaches from minus its half extents to its half extents along the axes, with elliptical corners of its
+ * radii (0: square); its frame takes it to where it lies. A fringe is a width there, such as that of a
+ * pixel: over it an edge fades. Distances are in fringe widths, below 0 inside.
  */
 #ifndef BEAMNETTLE_H
 #define BEAMNETTLE_H
@@ -19,10 +32,10 @@
 extern "C" {
 #endif
 
-/* What a function returns. */
+/* What a function returns: 8 bits, but for beamnettle_touch, which returns 32. No outcome has a cause's number. */
 enum {
     BEAMNETTLE_DONE = 0,
-    /* refused: */
+    /* refused: 1 to 31, of which these are in use */
     BEAMNETTLE_NUMBER_OUT_OF_RANGE = 1,     /* a number is not finite, or its size is over 2^20 */
     BEAMNETTLE_IMPROPER_BOX = 2,            /* a half extent or radius below 0, or a radius over its half extent */
     BEAMNETTLE_MASK_TOO_LARGE = 3,          /* a mask width or height over 4,096 */
@@ -36,11 +49,11 @@ enum {
     BEAMNETTLE_TOO_MANY_VERBS = 11,         /* over 256 verbs */
     BEAMNETTLE_TOO_MANY_BOXES = 12,         /* over 256 boxes in a touch list */
     /* done, and: */
-    BEAMNETTLE_NONE = 13, /* there is no box, or no coverage */
-    BEAMNETTLE_YES = 14,
-    BEAMNETTLE_NO = 15,
+    BEAMNETTLE_NONE = 32, /* there is no box, or no coverage */
+    BEAMNETTLE_YES = 33,
+    BEAMNETTLE_NO = 34,
     /* beamnettle_touch alone: */
-    BEAMNETTLE_NO_FRAME = 16,
+    BEAMNETTLE_NO_FRAME = 35,
     BEAMNETTLE_FIRST_PLACE = 256 /* the box at place k, counted from 0, is 256 + k */
 };
 
@@ -54,6 +67,14 @@ struct beamnettle_box {
     float extent_x, extent_y;
     float radius_x, radius_y;
 };
+
+#ifdef __cplusplus
+static_assert(sizeof(float) == 4 && sizeof(size_t) == 8, "a float of 32 bits, a length of 64");
+static_assert(sizeof(struct beamnettle_box) == 10 * sizeof(float), "a box is ten floats");
+#else
+_Static_assert(sizeof(float) == 4 && sizeof(size_t) == 8, "a float of 32 bits, a length of 64");
+_Static_assert(sizeof(struct beamnettle_box) == 10 * sizeof(float), "a box is ten floats");
+#endif
 
 /* Draws a word list into the first width * height bytes of a mask, rows first; later bytes are not
  * changed. A group is a rule word (0 non-zero, else even-odd), a count of contours, then per contour a
@@ -73,9 +94,11 @@ uint8_t beamnettle_lay(uint8_t *mask, size_t mask_length, size_t width, size_t h
                        size_t other_length, size_t other_width, size_t other_height, int32_t offset_x,
                        int32_t offset_y);
 
-/* The box that a straight outline draws. Verbs: 0 move to, 1 line to, 3 solid, 4 hole, 5 close; the
- * first two take a position of two floats each. Writes a box to out.
- * Returns 0 or 13, or 11, then 8 or 10 at the first verb at fault, 9, 1. */
+/* The box that a straight outline draws. Verbs: 0 move to and 1 line to, with one position each; 2 curve,
+ * with three; 3 solid, 4 hole and 5 close, with none. A position is two floats, and positions_length counts
+ * floats. Writes a box to out.
+ * Returns 0; 32 where the outline is no box; or 11, then 8 (a byte above 5) or 10 (a curve) at the first
+ * verb at fault, then 9 where the floats are not just those that the verbs take, an odd one too, then 1. */
 uint8_t beamnettle_fit(const uint8_t *verbs, size_t verbs_length, const float *positions, size_t positions_length,
                        float *out, size_t out_length);
 
@@ -83,37 +106,43 @@ uint8_t beamnettle_fit(const uint8_t *verbs, size_t verbs_length, const float *p
 uint8_t beamnettle_transformed(const float *box, size_t box_length, const float *frame, size_t frame_length,
                                float *out, size_t out_length);
 
-/* What two boxes with parallel sides share, where that is a box. Writes a box to out.
- * Returns 0 or 13, or 1 or 2 for the first box, for the second, then 1 for the fringe. */
+/* What two boxes share, where that is a box within half a fringe width. Writes a box to out.
+ * Returns 0; 32 where their sides are not parallel, where they share nothing, or where a corner is round,
+ * neither is a rectangle around the other, and the overlap is no box or one of the two has no coverage;
+ * or 1 or 2 for the first box, for the second, then 1 for the fringe. */
 uint8_t beamnettle_intersection(const float *one, size_t one_length, const float *two, size_t two_length,
                                 float fringe, float *out, size_t out_length);
 
-/* What two rectangles with parallel sides share; where they are apart, a box of no width or height
- * between them. Writes a box to out. Returns 0 or 13, or 1 or 2 for the first box, then for the second. */
+/* What two rectangles share; where they are apart, a box of no width or height between them. Writes a box
+ * to out. Returns 0; 32 where a corner is round or their sides are not parallel; or 1 or 2 for the first
+ * box, then for the second. */
 uint8_t beamnettle_rect_intersection(const float *one, size_t one_length, const float *two, size_t two_length,
                                      float *out, size_t out_length);
 
-/* The box as a draw takes it, if it is not too thin. Writes a coverage to out.
- * Returns 0 or 13, or 1 or 2 for the box, then 1 for the fringe. */
+/* The box as a draw takes it: the map from a point to the box's own axes, scaled to fringe widths, and the
+ * box in those. Where a radius is below half a fringe width, both become 0. Writes a coverage to out.
+ * Returns 0; 32 where the frame all but collapses (its axes all but parallel, or all but without length),
+ * where the fringe is 0 or below, or where a half extent is below half a fringe width; or 1 or 2 for the
+ * box, then 1 for the fringe. */
 uint8_t beamnettle_coverage(const float *box, size_t box_length, float fringe, float *out, size_t out_length);
 
 /* The bounds of a box. Writes four floats to out. Returns 0, or 1 or 2. */
 uint8_t beamnettle_bounds(const float *box, size_t box_length, float *out, size_t out_length);
 
-/* The distance of a point from a coverage's outline, below 0 inside. The coverage may hold any floats.
- * Writes one float to out. Returns 0, or 1 for the point. */
+/* The distance of a point from a coverage's outline, in fringe widths, below 0 inside. The coverage may hold
+ * any floats. Writes one float to out. Returns 0, or 1 for the point. */
 uint8_t beamnettle_distance(const float *coverage, size_t coverage_length, float x, float y, float *out,
                             size_t out_length);
 
-/* Whether the sides of two boxes are parallel. Returns 14 or 15, or 1 or 2 for the first box, then for the second. */
+/* Whether the sides of two boxes are parallel. Returns 33 or 34, or 1 or 2 for the first box, then for the second. */
 uint8_t beamnettle_parallel(const float *one, size_t one_length, const float *two, size_t two_length);
 
-/* Whether a coverage, of any floats, holds all of a box. Returns 14 or 15, or 1 or 2. */
+/* Whether a coverage, of any floats, holds all of a box, within half a fringe width. Returns 33 or 34, or 1 or 2. */
 uint8_t beamnettle_contains(const float *coverage, size_t coverage_length, const float *box, size_t box_length);
 
 /* The place of some box that a point touches: one whose coverage exists and whose distance at the point is
  * at most 0. At most 256 boxes are taken.
- * Returns 256 + the place, counted from 0; 16 where there is no such box; or 12, then 1 or 2 for each box in
+ * Returns 256 + the place, counted from 0; 35 where there is no such box; or 12, then 1 or 2 for each box in
  * order, then 1 for the fringe or the point. */
 uint32_t beamnettle_touch(const struct beamnettle_box *boxes, size_t boxes_length, float fringe, float x, float y);
 

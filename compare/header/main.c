@@ -1,0 +1,336 @@
+/* Calls every function of include/beamnettle.h from C, with different numbers in every place, and checks
+ * the number, all that is written, and that what lies past it is not changed. What is expected is document
+ * 01's examples, or is reckoned in whole numbers and halves beside the call. Then touch, on structs, is held
+ * to coverage and distance, on arrays. The exit status is 1 where a check fails. */
+#include "beamnettle.h"
+
+#include <math.h>
+#include <stdio.h>
+#include <string.h>
+
+static unsigned checks, failed;
+
+static void check(int good, int line, const char *what) {
+    checks++;
+    if (!good) {
+        failed++;
+        printf("line %d: %s\n", line, what);
+    }
+}
+
+#define CHECK(fact) check(fact, __LINE__, #fact)
+
+/* ---- what is lent for an answer: rubbish, two floats more than the longest takes */
+
+enum { BOX = BEAMNETTLE_BOX, FRAME = BEAMNETTLE_FRAME, COVERAGE = BEAMNETTLE_COVERAGE, BOUNDS = BEAMNETTLE_BOUNDS };
+enum { LENT = COVERAGE + 2 };
+
+static float out[LENT];
+
+static float rubbish(size_t i) { return 1000.0f + (float)i; }
+
+static void lend(void) {
+    for (size_t i = 0; i < LENT; i++) out[i] = rubbish(i);
+}
+
+/* Whether these floats were written, bit by bit, and nothing else. */
+static int wrote(const float *expected, size_t n) {
+    for (size_t i = 0; i < LENT; i++) {
+        float now = i < n ? expected[i] : rubbish(i);
+        if (memcmp(&out[i], &now, sizeof now) != 0) return 0;
+    }
+    return 1;
+}
+
+/* A call that is done and writes these floats to out, and one that returns another number and writes none. */
+#define WRITES(call, ...)                                                 \
+    do {                                                                  \
+        const float expected[] = {__VA_ARGS__};                           \
+        lend();                                                           \
+        CHECK((call) == BEAMNETTLE_DONE);                                 \
+        CHECK(wrote(expected, sizeof expected / sizeof *expected));       \
+    } while (0)
+#define RETURNS(number, call)         \
+    do {                              \
+        lend();                       \
+        CHECK((call) == (number));    \
+        CHECK(wrote(NULL, 0));        \
+    } while (0)
+
+/* ---- masks */
+
+/* A rectangle from (1, 0) to (2.5, 1.5) cells on a mask of 3 by 2. A cell is 255 times its share, to nearest. */
+static const int32_t RECTANGLE[] = {0, 1, 4, 256, 0, 640, 0, 640, 384, 256, 384};
+enum { WORDS = 11, FLOATS = 3 + 15 * 4, COUNTERS = (3 + 63) / 64 + 2 + 1 };
+
+static struct {
+    uint8_t mask[9];
+    float floats[FLOATS + 2];
+    uint64_t counters[COUNTERS + 2];
+} lent, before;
+
+static uint8_t draw(size_t mask, size_t width, const int32_t *words, size_t length, size_t floats, size_t counters) {
+    for (size_t i = 0; i < 9; i++) lent.mask[i] = (uint8_t)(90 + i);
+    for (size_t i = 0; i < FLOATS + 2; i++) lent.floats[i] = rubbish(i);
+    for (size_t i = 0; i < COUNTERS + 2; i++) lent.counters[i] = 50 + i;
+    before = lent;
+    return beamnettle_draw(lent.mask, mask, width, 2, words, length, lent.floats, floats, lent.counters, counters);
+}
+
+static int left_as_it_was(void) {
+    return memcmp(lent.mask, before.mask, sizeof lent.mask) == 0 &&
+           memcmp(lent.floats, before.floats, sizeof lent.floats) == 0 &&
+           memcmp(lent.counters, before.counters, sizeof lent.counters) == 0;
+}
+
+static void drawing(void) {
+    const uint8_t cells[] = {0, 255, 128, 0, 128, 64};
+    CHECK(draw(8, 3, RECTANGLE, WORDS, FLOATS, COUNTERS) == BEAMNETTLE_DONE);
+    CHECK(memcmp(lent.mask, cells, 6) == 0);
+    CHECK(memcmp(lent.mask + 6, before.mask + 6, 3) == 0);
+    for (size_t i = 0; i < FLOATS; i++) CHECK(lent.floats[i] == 0.0f && !signbit(lent.floats[i]));
+    for (size_t i = 0; i < COUNTERS; i++) CHECK(lent.counters[i] == 0);
+    CHECK(memcmp(lent.floats + FLOATS, before.floats + FLOATS, 2 * sizeof(float)) == 0);
+    CHECK(memcmp(lent.counters + COUNTERS, before.counters + COUNTERS, 2 * sizeof(uint64_t)) == 0);
+
+    const struct {
+        size_t mask, width;
+        const int32_t *words;
+        size_t length, floats, counters;
+        uint8_t number;
+    } refused[] = {
+        {8, 4097, RECTANGLE, WORDS, FLOATS, COUNTERS, BEAMNETTLE_MASK_TOO_LARGE},
+        {5, 3, RECTANGLE, WORDS, FLOATS, COUNTERS, BEAMNETTLE_BUFFER_TOO_SHORT},
+        {8, 3, RECTANGLE, WORDS - 1, FLOATS, COUNTERS, BEAMNETTLE_LIST_ENDS_EARLY},
+        {8, 3, (const int32_t[]){0, -1}, 2, FLOATS, COUNTERS, BEAMNETTLE_COUNT_OUT_OF_RANGE},
+        {8, 3, (const int32_t[]){0, 1, 1, 1048577, 0}, 5, FLOATS, COUNTERS, BEAMNETTLE_COORDINATE_OUT_OF_RANGE},
+        {8, 3, RECTANGLE, WORDS, FLOATS - 1, COUNTERS, BEAMNETTLE_BUFFER_TOO_SHORT},
+        {8, 3, RECTANGLE, WORDS, FLOATS, COUNTERS - 1, BEAMNETTLE_BUFFER_TOO_SHORT},
+    };
+    for (size_t i = 0; i < sizeof refused / sizeof *refused; i++) {
+        CHECK(draw(refused[i].mask, refused[i].width, refused[i].words, refused[i].length, refused[i].floats,
+                   refused[i].counters) == refused[i].number);
+        CHECK(left_as_it_was());
+    }
+    /* an empty list: a mask of zeros */
+    CHECK(draw(6, 3, NULL, 0, 3, COUNTERS) == BEAMNETTLE_DONE);
+    CHECK(memcmp(lent.mask, (const uint8_t[6]){0}, 6) == 0 && memcmp(lent.mask + 6, before.mask + 6, 3) == 0);
+}
+
+static void laying(void) {
+    /* cell (column, row) meets (column - 1, row + 1) of the other: (cell * other + 127) / 255, rounded down */
+    uint8_t mask[] = {10, 20, 30, 40, 50, 60, 77};
+    const uint8_t other[] = {9, 9, 255, 128, 127, 51}, laid[] = {0, 20, 15, 0, 25, 12, 77};
+    uint8_t kept[sizeof mask];
+    memcpy(kept, mask, sizeof mask);
+    CHECK(beamnettle_lay(mask, 6, 4097, 2, other, 6, 2, 3, -1, 1) == BEAMNETTLE_MASK_TOO_LARGE);
+    CHECK(beamnettle_lay(mask, 6, 3, 2, other, 6, 2, 4097, -1, 1) == BEAMNETTLE_MASK_TOO_LARGE);
+    CHECK(beamnettle_lay(mask, 5, 3, 2, other, 6, 2, 3, -1, 1) == BEAMNETTLE_BUFFER_TOO_SHORT);
+    CHECK(beamnettle_lay(mask, 6, 3, 2, other, 5, 2, 3, -1, 1) == BEAMNETTLE_BUFFER_TOO_SHORT);
+    CHECK(memcmp(mask, kept, sizeof mask) == 0);
+    CHECK(beamnettle_lay(mask, 7, 3, 2, other, 6, 2, 3, -1, 1) == BEAMNETTLE_DONE);
+    CHECK(memcmp(mask, laid, sizeof mask) == 0);
+}
+
+/* ---- boxes */
+
+/* Turned by a quarter and stretched: (px, py) goes to (-4 py + 6, 2 px + 8). */
+static const float TURNED[] = {0, 2, -4, 0, 6, 8, 3, 5, 1, 2};
+static const float IMPROPER[] = {1, 0, 0, 1, 0, 0, 1, 1, 2, 0};
+static const float INFINITE[] = {1, 0, 0, 1, 0, INFINITY, 1, 1, 0, 0};
+
+static void fitting(void) {
+    /* the rectangle from (3, 5) to (9, 9), along its first side; MoveTo, Close, MoveTo, LineTo is none */
+    const uint8_t verbs[] = {0, 1, 1, 1, 5}, apart[] = {0, 5, 0, 1}, curve[] = {0, 2, 6}, unknown[] = {6, 2};
+    const float corners[] = {3, 5, 9, 5, 9, 9, 3, 9}, far[] = {3, 5, 9, 5, 9, 9, 3, 1048577};
+    static const uint8_t many[257];
+    WRITES(beamnettle_fit(verbs, 5, corners, 8, out, BOX), 1, 0, 0, 1, 6, 7, 3, 2, 0, 0);
+    RETURNS(BEAMNETTLE_NONE, beamnettle_fit(apart, 4, corners, 6, out, BOX));
+    RETURNS(BEAMNETTLE_BUFFER_TOO_SHORT, beamnettle_fit(many, 257, corners, 8, out, BOX - 1));
+    RETURNS(BEAMNETTLE_TOO_MANY_VERBS, beamnettle_fit(many, 257, corners, 8, out, BOX));
+    RETURNS(BEAMNETTLE_CURVE_VERB, beamnettle_fit(curve, 3, corners, 8, out, BOX));
+    RETURNS(BEAMNETTLE_UNKNOWN_VERB, beamnettle_fit(unknown, 2, corners, 8, out, BOX));
+    RETURNS(BEAMNETTLE_POSITIONS_MISMATCH, beamnettle_fit(verbs, 5, corners, 7, out, BOX));
+    RETURNS(BEAMNETTLE_NUMBER_OUT_OF_RANGE, beamnettle_fit(verbs, 5, far, 8, out, BOX));
+}
+
+static void transforming(void) {
+    const float box[] = {2, 3, 5, 7, 11, 13, 47, 53, 41, 43}, frame[] = {17, 19, 23, 29, 31, 37};
+    WRITES(beamnettle_transformed(box, BOX, frame, FRAME, out, BOX), 2 * 17 + 3 * 23, 2 * 19 + 3 * 29, 5 * 17 + 7 * 23,
+           5 * 19 + 7 * 29, 11 * 17 + 13 * 23 + 31, 11 * 19 + 13 * 29 + 37, 47, 53, 41, 43);
+    RETURNS(BEAMNETTLE_BUFFER_TOO_SHORT, beamnettle_transformed(box, BOX - 1, frame, FRAME, out, BOX));
+    RETURNS(BEAMNETTLE_BUFFER_TOO_SHORT, beamnettle_transformed(box, BOX, frame, FRAME - 1, out, BOX));
+    RETURNS(BEAMNETTLE_BUFFER_TOO_SHORT, beamnettle_transformed(box, BOX, frame, FRAME, out, BOX - 1));
+    RETURNS(BEAMNETTLE_IMPROPER_BOX, beamnettle_transformed(IMPROPER, BOX, INFINITE, FRAME, out, BOX));
+    RETURNS(BEAMNETTLE_NUMBER_OUT_OF_RANGE, beamnettle_transformed(box, BOX, INFINITE, FRAME, out, BOX));
+}
+
+static void sharing(void) {
+    /* from (-3, -1) to (5, 5), and from (-2, 2) to (8, 6): from (-2, 2) to (5, 5) */
+    const float one[] = {1, 0, 0, 1, 1, 2, 4, 3, 0, 0}, two[] = {1, 0, 0, 1, 3, 4, 5, 2, 0, 0};
+    WRITES(beamnettle_intersection(one, BOX, two, BOX, 0, out, BOX), 1, 0, 0, 1, 1.5f, 3.5f, 3.5f, 1.5f, 0, 0);
+    WRITES(beamnettle_rect_intersection(one, BOX, two, BOX, out, BOX), 1, 0, 0, 1, 1.5f, 3.5f, 3.5f, 1.5f, 0, 0);
+    /* document 01: boxes that lie apart */
+    const float here[] = {1, 0, 0, 1, 0, 0, 2, 1, 0, 0}, there[] = {1, 0, 0, 1, 10, 0, 1, 1, 0, 0};
+    RETURNS(BEAMNETTLE_NONE, beamnettle_intersection(here, BOX, there, BOX, 1, out, BOX));
+    WRITES(beamnettle_rect_intersection(here, BOX, there, BOX, out, BOX), 1, 0, 0, 1, 9, 0, 0, 1, 0, 0);
+    /* a round box with itself: itself, where there is a fringe */
+    const float round[] = {1, 0, 0, 1, 6, 7, 4, 5, 1, 2};
+    WRITES(beamnettle_intersection(round, BOX, round, BOX, 0.25f, out, BOX), 1, 0, 0, 1, 6, 7, 4, 5, 1, 2);
+    RETURNS(BEAMNETTLE_NONE, beamnettle_intersection(round, BOX, round, BOX, 0, out, BOX));
+    RETURNS(BEAMNETTLE_NONE, beamnettle_rect_intersection(round, BOX, one, BOX, out, BOX));
+    RETURNS(BEAMNETTLE_BUFFER_TOO_SHORT, beamnettle_intersection(one, BOX - 1, two, BOX, 1, out, BOX));
+    RETURNS(BEAMNETTLE_BUFFER_TOO_SHORT, beamnettle_intersection(one, BOX, two, BOX - 1, 1, out, BOX));
+    RETURNS(BEAMNETTLE_BUFFER_TOO_SHORT, beamnettle_intersection(one, BOX, two, BOX, 1, out, BOX - 1));
+    RETURNS(BEAMNETTLE_IMPROPER_BOX, beamnettle_intersection(IMPROPER, BOX, INFINITE, BOX, INFINITY, out, BOX));
+    RETURNS(BEAMNETTLE_NUMBER_OUT_OF_RANGE, beamnettle_intersection(one, BOX, two, BOX, INFINITY, out, BOX));
+    RETURNS(BEAMNETTLE_BUFFER_TOO_SHORT, beamnettle_rect_intersection(one, BOX - 1, two, BOX, out, BOX));
+    RETURNS(BEAMNETTLE_BUFFER_TOO_SHORT, beamnettle_rect_intersection(one, BOX, two, BOX - 1, out, BOX));
+    RETURNS(BEAMNETTLE_BUFFER_TOO_SHORT, beamnettle_rect_intersection(one, BOX, two, BOX, out, BOX - 1));
+    RETURNS(BEAMNETTLE_NUMBER_OUT_OF_RANGE, beamnettle_rect_intersection(INFINITE, BOX, IMPROPER, BOX, out, BOX));
+}
+
+static void covering(void) {
+    /* back from TURNED: (px, py) goes to (py / 2 - 4, -px / 4 + 3 / 2); a fringe of a half is 1/4 and 1/8 there */
+    WRITES(beamnettle_coverage(TURNED, BOX, 0.5f, out, COVERAGE), 0, 2, -2, 0, -16, 12, 12, 40, 4, 16, 0);
+    /* document 01: radii of 0.4375 and 3 become 0, and a half extent of 0.4375 is too thin */
+    const float tight[] = {1, 0, 0, 1, 0, 0, 4, 5, 0.4375f, 3}, thin[] = {1, 0, 0, 1, 0, 0, 0.4375f, 5, 0, 0};
+    WRITES(beamnettle_coverage(tight, BOX, 1, out, COVERAGE), 1, -0.0f, -0.0f, 1, 0, 0, 4, 5, 0, 0, 0);
+    RETURNS(BEAMNETTLE_NONE, beamnettle_coverage(thin, BOX, 1, out, COVERAGE));
+    RETURNS(BEAMNETTLE_NONE, beamnettle_coverage(TURNED, BOX, 0, out, COVERAGE));
+    RETURNS(BEAMNETTLE_BUFFER_TOO_SHORT, beamnettle_coverage(TURNED, BOX - 1, 1, out, COVERAGE));
+    RETURNS(BEAMNETTLE_BUFFER_TOO_SHORT, beamnettle_coverage(TURNED, BOX, 1, out, COVERAGE - 1));
+    RETURNS(BEAMNETTLE_IMPROPER_BOX, beamnettle_coverage(IMPROPER, BOX, INFINITY, out, COVERAGE));
+    RETURNS(BEAMNETTLE_NUMBER_OUT_OF_RANGE, beamnettle_coverage(TURNED, BOX, -INFINITY, out, COVERAGE));
+
+    WRITES(beamnettle_bounds(TURNED, BOX, out, BOUNDS), 6 - 4 * 5, 8 - 2 * 3, 6 + 4 * 5, 8 + 2 * 3);
+    RETURNS(BEAMNETTLE_BUFFER_TOO_SHORT, beamnettle_bounds(TURNED, BOX - 1, out, BOUNDS));
+    RETURNS(BEAMNETTLE_BUFFER_TOO_SHORT, beamnettle_bounds(TURNED, BOX, out, BOUNDS - 1));
+    RETURNS(BEAMNETTLE_IMPROPER_BOX, beamnettle_bounds(IMPROPER, BOX, out, BOUNDS));
+}
+
+static void measuring(void) {
+    /* (1, 2) at (3 + 8 + 6, 5 + 14 + 8) less the extents: 8 across, 17 along; the larger counts, then the other */
+    const float along[] = {3, 4, 5, 7, 6, 8, 9, 10, 0, 0, 1}, across[] = {3, 4, 5, 7, 6, 8, 9, 20, 0, 0, 1};
+    WRITES(beamnettle_distance(along, COVERAGE, 1, 2, out, 1), 17);
+    WRITES(beamnettle_distance(across, COVERAGE, 1, 2, out, 1), 8);
+    /* at a corner: (163, 15) at (34, 170), which is (8, 15) radii from the corner's centre; 17 radii, less 1 */
+    const float corner[] = {0, 2, 1, 0, 4, 7, 20, 100, 2, 5, 9};
+    WRITES(beamnettle_distance(corner, COVERAGE, 163, 15, out, 1), (17 - 1) * 17 / 5.0f);
+    RETURNS(BEAMNETTLE_BUFFER_TOO_SHORT, beamnettle_distance(corner, COVERAGE - 1, 1, 2, out, 1));
+    RETURNS(BEAMNETTLE_BUFFER_TOO_SHORT, beamnettle_distance(corner, COVERAGE, 1, 2, out, 0));
+    RETURNS(BEAMNETTLE_NUMBER_OUT_OF_RANGE, beamnettle_distance(corner, COVERAGE, 1, INFINITY, out, 1));
+
+    /* it holds x from -307 to 293 and y from -32 to 28 */
+    const float around[] = {0, 2, 1, 0, 4, 7, 60, 300, 2, 5, 9};
+    const float inside[] = {1, 0, 0, 1, 163, 15, 50, 5, 3, 4}, outside[] = {1, 0, 0, 1, 163, 15, 5, 50, 3, 4};
+    CHECK(beamnettle_contains(around, COVERAGE, inside, BOX) == BEAMNETTLE_YES);
+    CHECK(beamnettle_contains(around, COVERAGE, outside, BOX) == BEAMNETTLE_NO);
+    CHECK(beamnettle_contains(around, COVERAGE - 1, inside, BOX) == BEAMNETTLE_BUFFER_TOO_SHORT);
+    CHECK(beamnettle_contains(around, COVERAGE, inside, BOX - 1) == BEAMNETTLE_BUFFER_TOO_SHORT);
+    CHECK(beamnettle_contains(around, COVERAGE, IMPROPER, BOX) == BEAMNETTLE_IMPROPER_BOX);
+    CHECK(beamnettle_contains(around, COVERAGE, INFINITE, BOX) == BEAMNETTLE_NUMBER_OUT_OF_RANGE);
+
+    const float leaning[] = {1, 1, -1, 1, 0, 0, 1, 1, 0, 0};
+    CHECK(beamnettle_parallel(inside, BOX, TURNED, BOX) == BEAMNETTLE_YES);
+    CHECK(beamnettle_parallel(inside, BOX, leaning, BOX) == BEAMNETTLE_NO);
+    CHECK(beamnettle_parallel(inside, BOX - 1, TURNED, BOX) == BEAMNETTLE_BUFFER_TOO_SHORT);
+    CHECK(beamnettle_parallel(inside, BOX, TURNED, BOX - 1) == BEAMNETTLE_BUFFER_TOO_SHORT);
+    CHECK(beamnettle_parallel(IMPROPER, BOX, INFINITE, BOX) == BEAMNETTLE_IMPROPER_BOX);
+    CHECK(beamnettle_parallel(INFINITE, BOX, IMPROPER, BOX) == BEAMNETTLE_NUMBER_OUT_OF_RANGE);
+}
+
+/* ---- the touch list */
+
+/* No proof speaks of where a struct's fields lie. So touch, which takes structs, is held to coverage and
+ * distance, which take the same ten floats as an array, at points on and about a box. Any two of the floats
+ * exchanged would show: the array's answer changes at some point. */
+enum { SIDE = 41, POINTS = SIDE * SIDE };
+static const float SAMPLE[BOX] = {3, 1, -2, 4, 5, -7, 9, 8, 6, 2};
+static const float FRINGE = 0.75f;
+
+static float x_of(size_t point) { return 2.0f * (float)(point % SIDE) - 35.0f; }
+static float y_of(size_t point) { return 2.0f * (float)(point / SIDE) - 46.0f; }
+
+/* What touch is to answer at a point. */
+static uint32_t by_array(const float *box, size_t point) {
+    float coverage[COVERAGE], distance;
+    uint8_t number = beamnettle_coverage(box, BOX, FRINGE, coverage, COVERAGE);
+    if (number == BEAMNETTLE_NONE) return BEAMNETTLE_NO_FRAME;
+    if (number != BEAMNETTLE_DONE) return number;
+    number = beamnettle_distance(coverage, COVERAGE, x_of(point), y_of(point), &distance, 1);
+    if (number != BEAMNETTLE_DONE) return number;
+    return distance <= 0 ? BEAMNETTLE_FIRST_PLACE : BEAMNETTLE_NO_FRAME;
+}
+
+/* Whether the two floats exchanged change the answer at some point. */
+static int shows(size_t one, size_t two) {
+    float box[BOX];
+    memcpy(box, SAMPLE, sizeof box);
+    box[one] = SAMPLE[two];
+    box[two] = SAMPLE[one];
+    for (size_t point = 0; point < POINTS; point++)
+        if (by_array(box, point) != by_array(SAMPLE, point)) return 1;
+    return 0;
+}
+
+static void touching(void) {
+    const struct beamnettle_box box = {
+        .a = SAMPLE[0], .b = SAMPLE[1], .c = SAMPLE[2], .d = SAMPLE[3], .x = SAMPLE[4], .y = SAMPLE[5],
+        .extent_x = SAMPLE[6], .extent_y = SAMPLE[7], .radius_x = SAMPLE[8], .radius_y = SAMPLE[9],
+    };
+    size_t same = 0;
+    for (size_t point = 0; point < POINTS; point++)
+        same += beamnettle_touch(&box, 1, FRINGE, x_of(point), y_of(point)) == by_array(SAMPLE, point);
+    CHECK(same == POINTS);
+    for (size_t one = 0; one < BOX; one++)
+        for (size_t two = one + 1; two < BOX; two++) CHECK(shows(one, two));
+
+    /* places, and numbers in their order */
+    static struct beamnettle_box boxes[257];
+    for (size_t i = 0; i < 257; i++)
+        boxes[i] = (struct beamnettle_box){.a = 1, .d = 1, .x = 10.0f * (float)i, .y = 3, .extent_x = 2, .extent_y = 1};
+    CHECK(beamnettle_touch(boxes, 256, 1, 0, 3) == BEAMNETTLE_FIRST_PLACE);
+    CHECK(beamnettle_touch(boxes, 256, 1, 2551, 3.5f) == BEAMNETTLE_FIRST_PLACE + 255);
+    CHECK(beamnettle_touch(boxes, 255, 1, 2551, 3.5f) == BEAMNETTLE_NO_FRAME);
+    CHECK(beamnettle_touch(boxes, 257, 1, 0, 3) == BEAMNETTLE_TOO_MANY_BOXES);
+    boxes[7].radius_y = 2;
+    boxes[9].c = INFINITY;
+    CHECK(beamnettle_touch(boxes, 256, INFINITY, 0, 3) == BEAMNETTLE_IMPROPER_BOX);
+    CHECK(beamnettle_touch(boxes + 8, 248, INFINITY, 80, 3) == BEAMNETTLE_NUMBER_OUT_OF_RANGE);
+    CHECK(beamnettle_touch(boxes, 7, INFINITY, 0, 3) == BEAMNETTLE_NUMBER_OUT_OF_RANGE);
+    CHECK(beamnettle_touch(boxes, 7, 1, 0, 1048577) == BEAMNETTLE_NUMBER_OUT_OF_RANGE);
+}
+
+/* ---- a length of 0 with no address, as of an empty vector */
+static void nothing(void) {
+    uint64_t counter = 5;
+    CHECK(beamnettle_draw(NULL, 0, 0, 0, NULL, 0, NULL, 0, &counter, 1) == BEAMNETTLE_DONE && counter == 0);
+    CHECK(beamnettle_draw(NULL, 0, 0, 0, NULL, 0, NULL, 0, NULL, 0) == BEAMNETTLE_BUFFER_TOO_SHORT);
+    CHECK(beamnettle_lay(NULL, 0, 0, 7, NULL, 0, 5, 0, 3, 2) == BEAMNETTLE_DONE);
+    RETURNS(BEAMNETTLE_NONE, beamnettle_fit(NULL, 0, NULL, 0, out, BOX));
+    CHECK(beamnettle_fit(NULL, 0, NULL, 0, NULL, 0) == BEAMNETTLE_BUFFER_TOO_SHORT);
+    CHECK(beamnettle_transformed(NULL, 0, NULL, 0, NULL, 0) == BEAMNETTLE_BUFFER_TOO_SHORT);
+    CHECK(beamnettle_intersection(NULL, 0, NULL, 0, 1, NULL, 0) == BEAMNETTLE_BUFFER_TOO_SHORT);
+    CHECK(beamnettle_rect_intersection(NULL, 0, NULL, 0, NULL, 0) == BEAMNETTLE_BUFFER_TOO_SHORT);
+    CHECK(beamnettle_coverage(NULL, 0, 1, NULL, 0) == BEAMNETTLE_BUFFER_TOO_SHORT);
+    CHECK(beamnettle_bounds(NULL, 0, NULL, 0) == BEAMNETTLE_BUFFER_TOO_SHORT);
+    CHECK(beamnettle_distance(NULL, 0, 1, 2, NULL, 0) == BEAMNETTLE_BUFFER_TOO_SHORT);
+    CHECK(beamnettle_parallel(NULL, 0, NULL, 0) == BEAMNETTLE_BUFFER_TOO_SHORT);
+    CHECK(beamnettle_contains(NULL, 0, NULL, 0) == BEAMNETTLE_BUFFER_TOO_SHORT);
+    CHECK(beamnettle_touch(NULL, 0, 1, 2, 3) == BEAMNETTLE_NO_FRAME);
+}
+
+int main(void) {
+    drawing();
+    laying();
+    fitting();
+    transforming();
+    sharing();
+    covering();
+    measuring();
+    touching();
+    nothing();
+    printf("%u checks of the header, %u failed\n", checks, failed);
+    return failed > 0;
+}
