@@ -15,7 +15,7 @@
  * Floats. Calls run with the processor's default settings: rounding to nearest, subnormal numbers kept
  * (no flush to zero, no denormals are zero). Where these are changed, nothing is promised of an answer.
  * A done answer may hold NaN or infinities, and numbers of a size over 2^20: the next call that is lent
- * them as a box refuses them with 1.
+ * them as a box or a frame refuses them with 1.
  *
  * A frame a b c d x y takes a point (px, py) to (a * px + c * py + x, b * px + d * py + y). A box
  * reaches from minus its half extents to its half extents along the axes, with elliptical corners of its
@@ -32,10 +32,10 @@
 extern "C" {
 #endif
 
-/* What a function returns: 8 bits, but for beamnettle_touch, which returns 32. No outcome has a cause's number. */
+/* What a function returns: 8 bits, but for beamnettle_touch, which returns 32. 1 to 31 are refusals alone. */
 enum {
     BEAMNETTLE_DONE = 0,
-    /* refused: 1 to 31, of which these are in use */
+    /* refused: */
     BEAMNETTLE_NUMBER_OUT_OF_RANGE = 1,     /* a number is not finite, or its size is over 2^20 */
     BEAMNETTLE_IMPROPER_BOX = 2,            /* a half extent or radius below 0, or a radius over its half extent */
     BEAMNETTLE_MASK_TOO_LARGE = 3,          /* a mask width or height over 4,096 */

@@ -45,7 +45,12 @@ struct Counts {
 impl Counts {
     fn answer(&mut self, kind: &'static str, number: u8) {
         self.compared += 1;
-        *self.answers.entry(kind).or_default().entry(number).or_default() += 1;
+        *self
+            .answers
+            .entry(kind)
+            .or_default()
+            .entry(number)
+            .or_default() += 1;
     }
 
     fn difference(&mut self, difference: &str, calls: &impl std::fmt::Display) {

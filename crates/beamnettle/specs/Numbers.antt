@@ -1,4 +1,5 @@
--- No outcome's number is a cause's: a caller that is handed 1 to 31 was refused, for the cause of that number, and is told apart all else. Proved in proofs/Numbers.antt.
+-- No outcome's number is a cause's: a caller that is handed 1 to 31 was refused, for the cause of that number, and any
+-- other number is an outcome's. Proved in proofs/Numbers.antt.
 use Prim.Native.Nat.{ℕ, _≤_}
 use mathlib.Core.Path.{_≡_}
 use Rattle.fault.specs.declared.Fault.{Fault}
@@ -13,7 +14,8 @@ use Rattle.touch.specs.declared.TouchAnswer.the-variants as touched
 use Rattle.beamnettle.specs.Outcomes.{Ordinary, ordinaryNumber}
 use Rattle.beamnettle.specs.Calls.{outcomeNumber, boxNumber, coverageNumber, boundsNumber, distanceNumber, testNumber, touchNumber}
 
--- of answers, a way to number them, and those that refuse: a number is a cause's exactly when the answer is the refusal with that cause; from 1 to 31 there is nothing else
+-- of answers, a way to number them, and those that refuse: a number is a cause's exactly when the answer is the refusal
+-- with that cause; from 1 to 31 there is nothing else
 pub record CauseExactlyWhen {A : Type 0} (number : A → ℕ) (refused : Fault → A) : Type 0 where
   pub only : (a : A) (f : Fault) → number a ≡ numberOf f → a ≡ refused f
   pub always : (f : Fault) → number (refused f) ≡ numberOf f

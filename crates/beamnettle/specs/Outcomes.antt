@@ -1,7 +1,8 @@
--- Ordinary outcomes of done calls, and their numbers at the C boundary. Document 01 gives numbers to its causes alone: 1 to 31 are left to those. Definitions only.
+-- Ordinary outcomes of done calls, and their numbers at the C boundary. Document 01 gives numbers to its causes alone:
+-- 1 to 31 are left to those. Definitions only.
 use Prim.Native.Nat.{ℕ, _+_}
 
--- done, with nothing more to say; none: "no box", or no coverage; yes and no; "no frame"; the place of a touch, counted from 0
+-- done, with nothing more to say; none: "no box", or no coverage; yes and no; "no frame"; the place of a touch, from 0
 pub data Ordinary : Type 0 where
   done none yes no noFrame : Ordinary
   place : ℕ → Ordinary

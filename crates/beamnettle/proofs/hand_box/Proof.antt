@@ -1,4 +1,5 @@
--- `beamnettle::hand_box` meets its contract: an answer that holds floats is written, any other leaves what is lent. Assumes nothing.
+-- `beamnettle::hand_box` meets its contract: floats are written, and any other answer leaves what is lent.
+-- Assumes nothing.
 use borrow.Author.Needs.{needs}
 use mathlib.Core.Path.{_≡_, refl, sym, ap, _∙_}
 use mathlib.Core.List.{List, [], _∷_}
