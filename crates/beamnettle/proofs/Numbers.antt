@@ -2,14 +2,15 @@
 use Prim.Native.Nat.{ℕ, _+_, _-_, _≤_}
 use mathlib.Core.Path.{_≡_, refl, sym, ap, _∙_}
 use mathlib.Core.Bool.{true, false}
-use mathlib.Core.List.{List, [], _∷_}
+use mathlib.Core.List.{[], _∷_}
 use native.Mathlib.Omega.{arith}
 use lib.ListN.{getD, List·getD-eq-default}
 use Rattle.fault.specs.declared.Fault.{Fault}
-use Rattle.fault.specs.declared.Fault.the-variants.{NumberOutOfRange, ImproperBox, MaskTooLarge, BufferTooShort, ListEndsEarly, CountOutOfRange, CoordinateOutOfRange, UnknownVerb, PositionsMismatch, CurveVerb, TooManyVerbs, TooManyBoxes}
 use Rattle.fault.specs.Number.{numberOf}
+use Rattle.fault.proofs.Numbers.{cause-numbers}
 use Rattle.mask.specs.declared.Outcome.{Outcome}
 use Rattle.mask.specs.declared.Outcome.the-variants as drawn
+use Rattle.mask.specs.Calls.{outcomeNumber}
 use Rattle.shape.specs.declared.BoxAnswer.{BoxAnswer}
 use Rattle.shape.specs.declared.BoxAnswer.the-variants as box
 use Rattle.shape.specs.declared.CoverageAnswer.{CoverageAnswer}
@@ -23,48 +24,8 @@ use Rattle.shape.specs.declared.TestAnswer.the-variants as test
 use Rattle.touch.specs.declared.TouchAnswer.{TouchAnswer}
 use Rattle.touch.specs.declared.TouchAnswer.the-variants as touched
 use Rattle.beamnettle.specs.Outcomes.{Ordinary, done, none, yes, no, noFrame, place, ordinaryNumber}
-use Rattle.beamnettle.specs.Calls.{outcomeNumber, boxNumber, coverageNumber, boundsNumber, distanceNumber, testNumber, touchNumber}
+use Rattle.beamnettle.specs.Calls.{boxNumber, coverageNumber, boundsNumber, distanceNumber, testNumber, touchNumber}
 use Rattle.beamnettle.specs.Numbers.{CauseExactlyWhen, NumbersApart}
-
--- ---- causes
-
--- the table, by place
-abbrev faults : List Fault
-faults = NumberOutOfRange ∷ ImproperBox ∷ MaskTooLarge ∷ BufferTooShort ∷ ListEndsEarly ∷ CountOutOfRange ∷ CoordinateOutOfRange ∷ UnknownVerb ∷ PositionsMismatch ∷ CurveVerb ∷ TooManyVerbs ∷ TooManyBoxes ∷ []
-
-abbrev fault-at : ℕ → Fault
-fault-at n = getD faults (n - 1) NumberOutOfRange
-
-own-fault : (f : Fault) → fault-at (numberOf f) ≡ f
-own-fault NumberOutOfRange = refl
-own-fault ImproperBox = refl
-own-fault MaskTooLarge = refl
-own-fault BufferTooShort = refl
-own-fault ListEndsEarly = refl
-own-fault CountOutOfRange = refl
-own-fault CoordinateOutOfRange = refl
-own-fault UnknownVerb = refl
-own-fault PositionsMismatch = refl
-own-fault CurveVerb = refl
-own-fault TooManyVerbs = refl
-own-fault TooManyBoxes = refl
-
-causes : (f g : Fault) → numberOf f ≡ numberOf g → f ≡ g
-causes f g e = sym (own-fault f) ∙ ap fault-at e ∙ own-fault g
-
-ranged : (f : Fault) → (1 ≤ numberOf f) × (numberOf f ≤ 31)
-ranged NumberOutOfRange = (omega arith, omega arith)
-ranged ImproperBox = (omega arith, omega arith)
-ranged MaskTooLarge = (omega arith, omega arith)
-ranged BufferTooShort = (omega arith, omega arith)
-ranged ListEndsEarly = (omega arith, omega arith)
-ranged CountOutOfRange = (omega arith, omega arith)
-ranged CoordinateOutOfRange = (omega arith, omega arith)
-ranged UnknownVerb = (omega arith, omega arith)
-ranged PositionsMismatch = (omega arith, omega arith)
-ranged CurveVerb = (omega arith, omega arith)
-ranged TooManyVerbs = (omega arith, omega arith)
-ranged TooManyBoxes = (omega arith, omega arith)
 
 -- ---- outcomes
 
@@ -77,7 +38,7 @@ outside noFrame low high = omega arith
 outside (place k) low high = omega arith
 
 apart : (o : Ordinary) (f : Fault) → ordinaryNumber o ≡ numberOf f → ⊥
-apart o f e = let r = ranged f in outside o (omega arith) (omega arith)
+apart o f e = let least = cause-numbers .least f in let most = cause-numbers .most f in outside o (omega arith) (omega arith)
 
 -- those below the places, by number; then the places
 abbrev outcome-at : ℕ → Ordinary
@@ -103,9 +64,10 @@ outcomes o p e = sym (own-outcome o) ∙ ap outcome-at e ∙ own-outcome p
 module _ {A : Type 0} (number : A → ℕ) (refused : Fault → A) (always : (f : Fault) → number (refused f) ≡ numberOf f) (within : (a : A) → 1 ≤ number a → number a ≤ 31 → (f : Fault) × (a ≡ refused f)) where
   only : (a : A) (f : Fault) → number a ≡ numberOf f → a ≡ refused f
   only a f e =
-      let r = ranged f in
+      let least = cause-numbers .least f in
+      let most = cause-numbers .most f in
       let w = within a (omega arith) (omega arith) in
-      w .1 ∙ ap refused (causes (w .0) f (sym (always (w .0)) ∙ ap number (sym (w .1)) ∙ e))
+      w .1 ∙ ap refused (cause-numbers .apart (w .0) f (sym (always (w .0)) ∙ ap number (sym (w .1)) ∙ e))
 
   told : CauseExactlyWhen number refused
   told = record { only = only; always = always; within = within }
@@ -144,9 +106,7 @@ touch-within (touched.Refused f) low high = (f, refl)
 
 pub numbers-apart : NumbersApart
 numbers-apart = record {
-  least = λ f. ranged f .0;
-  most = λ f. ranged f .1;
-  causes = causes;
+  causes = cause-numbers;
   apart = apart;
   outcomes = outcomes;
   outcome = told outcomeNumber drawn.Refused (λ f. refl) outcome-within;

@@ -8,8 +8,6 @@ use lib.Ieee.{Float}
 use lib.ListN.{length}
 use Rattle.fault.specs.declared.Fault.the-variants.{BufferTooShort}
 use Rattle.fault.specs.Number.{numberOf}
-use Rattle.mask.specs.declared.Outcome.{Outcome}
-use Rattle.mask.specs.declared.Outcome.the-variants as drawn
 use Rattle.shape.specs.declared.BoxAnswer.{BoxAnswer}
 use Rattle.shape.specs.declared.BoxAnswer.the-variants as box
 use Rattle.shape.specs.declared.CoverageAnswer.{CoverageAnswer}
@@ -30,11 +28,7 @@ use Rattle.touch.specs.Touch.{TouchRule}
 use Rattle.beamnettle.specs.Lent.{frameIn, boxIn, coverageIn, boxFloats, coverageFloats, boundsFloats, over}
 use Rattle.beamnettle.specs.Outcomes.{ordinaryNumber, done, none, yes, no, noFrame, place}
 
--- ---- an answer's number: 'A call is done, or turned away by number.' The numbers of ordinary outcomes: Outcomes.antt
-
-abbrev pub outcomeNumber : Outcome → ℕ
-outcomeNumber drawn.Done = 0
-outcomeNumber (drawn.Refused f) = numberOf f
+-- ---- an answer's number: 'A call is done, or turned away by number.' The numbers of ordinary outcomes: Outcomes.antt. (Of a drawing and a laying-on: `outcomeNumber` of mask/specs/Calls.antt)
 
 abbrev pub boxNumber : BoxAnswer → ℕ
 boxNumber (box.Box b) = ordinaryNumber done

@@ -3,8 +3,9 @@
 use Prim.Native.Nat.{ℕ, _≤_}
 use mathlib.Core.Path.{_≡_}
 use Rattle.fault.specs.declared.Fault.{Fault}
-use Rattle.fault.specs.Number.{numberOf}
+use Rattle.fault.specs.Number.{numberOf, CauseNumbers}
 use Rattle.mask.specs.declared.Outcome.the-variants as drawn
+use Rattle.mask.specs.Calls.{outcomeNumber}
 use Rattle.shape.specs.declared.BoxAnswer.the-variants as box
 use Rattle.shape.specs.declared.CoverageAnswer.the-variants as covered
 use Rattle.shape.specs.declared.BoundsAnswer.the-variants as bounds
@@ -12,7 +13,7 @@ use Rattle.shape.specs.declared.DistanceAnswer.the-variants as distance
 use Rattle.shape.specs.declared.TestAnswer.the-variants as test
 use Rattle.touch.specs.declared.TouchAnswer.the-variants as touched
 use Rattle.beamnettle.specs.Outcomes.{Ordinary, ordinaryNumber}
-use Rattle.beamnettle.specs.Calls.{outcomeNumber, boxNumber, coverageNumber, boundsNumber, distanceNumber, testNumber, touchNumber}
+use Rattle.beamnettle.specs.Calls.{boxNumber, coverageNumber, boundsNumber, distanceNumber, testNumber, touchNumber}
 
 -- of answers, a way to number them, and those that refuse: a number is a cause's exactly when the answer is the refusal
 -- with that cause; from 1 to 31 there is nothing else
@@ -22,10 +23,8 @@ pub record CauseExactlyWhen {A : Type 0} (number : A → ℕ) (refused : Fault �
   pub within : (a : A) → 1 ≤ number a → number a ≤ 31 → (f : Fault) × (a ≡ refused f)
 
 pub record NumbersApart : Type 0 where
-  -- every cause's number lies from 1 to 31, and two causes have two numbers
-  pub least : (f : Fault) → 1 ≤ numberOf f
-  pub most : (f : Fault) → numberOf f ≤ 31
-  pub causes : (f g : Fault) → numberOf f ≡ numberOf g → f ≡ g
+  -- every cause has a number of its own, from 1 to 31 (fault/specs/Number.antt)
+  pub causes : CauseNumbers
   -- no outcome's number is a cause's, and two outcomes have two numbers
   pub apart : (o : Ordinary) (f : Fault) → ordinaryNumber o ≡ numberOf f → ⊥
   pub outcomes : (o p : Ordinary) → ordinaryNumber o ≡ ordinaryNumber p → o ≡ p

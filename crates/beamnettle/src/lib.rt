@@ -17,10 +17,10 @@ use touch::TouchAnswer;
 ghost use mathlib.Core.Path.{_≡_};
 ghost use Prim.Native.Nat.{_≤_};
 ghost use lib.ListN.{length};
-ghost use Rattle.mask.specs.Calls.{drawAnswer, maskAfterDrawing, floatsAfterDrawing, countersAfterDrawing, layAnswer, maskAfterLaying};
+ghost use Rattle.mask.specs.Calls.{lentTo, outcomeNumber, drawAnswer, maskAfterDrawing, floatsAfterDrawing, countersAfterDrawing, layAnswer, maskAfterLaying};
 ghost use Rattle.touch.specs.Touch.{pointOf};
 ghost use Rattle.beamnettle.specs.Lent.{frameIn, boxIn, coverageIn, over};
-ghost use Rattle.beamnettle.specs.Calls.{outcomeNumber, boxNumber, coverageNumber, boundsNumber, distanceNumber, testNumber, touchNumber, TouchNumber, boxAfter, coverageAfter, boundsAfter, distanceAfter, fitLent, transformedLent, intersectionLent, rectIntersectionLent, coverageLent, boundsLent, distanceLent, parallelLent, containsLent};
+ghost use Rattle.beamnettle.specs.Calls.{boxNumber, coverageNumber, boundsNumber, distanceNumber, testNumber, touchNumber, TouchNumber, boxAfter, coverageAfter, boundsAfter, distanceAfter, fitLent, transformedLent, intersectionLent, rectIntersectionLent, coverageLent, boundsLent, distanceLent, parallelLent, containsLent};
 
 const DONE: u8 = 0;
 
@@ -66,10 +66,10 @@ pub extern "C" fn beamnettle_draw(
     floats: &mut [f32],
     counters: &mut [u64],
 ) -> u8
-    ensures number { λ r. ⌜ r ≡ outcomeNumber (drawAnswer (record { width = width; height = height }) (now (words .entry)) (record { mask = length (now (mask .entry)); floats = length (now (floats .entry)); counters = length (now (counters .entry)) })) ⌝ }
-    ensures cells { λ _. ⌜ now (mask .exit) ≡ maskAfterDrawing (drawAnswer (record { width = width; height = height }) (now (words .entry)) (record { mask = length (now (mask .entry)); floats = length (now (floats .entry)); counters = length (now (counters .entry)) })) (record { width = width; height = height }) (now (words .entry)) (now (mask .entry)) ⌝ }
-    ensures floats { λ _. ⌜ now (floats .exit) ≡ floatsAfterDrawing (drawAnswer (record { width = width; height = height }) (now (words .entry)) (record { mask = length (now (mask .entry)); floats = length (now (floats .entry)); counters = length (now (counters .entry)) })) (now (floats .entry)) ⌝ }
-    ensures counters { λ _. ⌜ now (counters .exit) ≡ countersAfterDrawing (drawAnswer (record { width = width; height = height }) (now (words .entry)) (record { mask = length (now (mask .entry)); floats = length (now (floats .entry)); counters = length (now (counters .entry)) })) (now (counters .entry)) ⌝ }
+    ensures number { λ r. ⌜ r ≡ outcomeNumber (drawAnswer (record { width = width; height = height }) (now (words .entry)) (lentTo (now (mask .entry)) (now (floats .entry)) (now (counters .entry)))) ⌝ }
+    ensures cells { λ _. ⌜ now (mask .exit) ≡ maskAfterDrawing (drawAnswer (record { width = width; height = height }) (now (words .entry)) (lentTo (now (mask .entry)) (now (floats .entry)) (now (counters .entry)))) (record { width = width; height = height }) (now (words .entry)) (now (mask .entry)) ⌝ }
+    ensures floats { λ _. ⌜ now (floats .exit) ≡ floatsAfterDrawing (drawAnswer (record { width = width; height = height }) (now (words .entry)) (lentTo (now (mask .entry)) (now (floats .entry)) (now (counters .entry)))) (now (floats .entry)) ⌝ }
+    ensures counters { λ _. ⌜ now (counters .exit) ≡ countersAfterDrawing (drawAnswer (record { width = width; height = height }) (now (words .entry)) (lentTo (now (mask .entry)) (now (floats .entry)) (now (counters .entry)))) (now (counters .entry)) ⌝ }
 {
     let size = Size { width, height };
     outcome_number(mask::rasterize_into(mask, size, words, floats, counters))

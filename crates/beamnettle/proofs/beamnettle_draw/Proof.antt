@@ -3,7 +3,7 @@ use borrow.Author.Needs.{needs}
 use mathlib.Core.Path.{_∙_, ap}
 use Rattle.mask.specs.declared.Outcome.{Outcome}
 use Rattle.mask.specs.Calls.{maskAfterDrawing, floatsAfterDrawing, countersAfterDrawing}
-use Rattle.beamnettle.specs.Calls.{outcomeNumber}
+use Rattle.mask.specs.Calls.{outcomeNumber}
 use Rattle.beamnettle.proofs.beamnettle_draw.Statement.{statement}
 use Rattle.beamnettle.proofs.beamnettle_draw.Tie as tie
 
@@ -31,7 +31,7 @@ returns c =
         drawn .1 .0 ∙ ap (λ (o : Outcome). maskAfterDrawing o (record { width = args .width; height = args .height }) (args .words .now) (args .mask .now)) (drawn .0),
         (
           drawn .1 .1 .0 ∙ ap (λ (o : Outcome). floatsAfterDrawing o (args .floats .now)) (drawn .0),
-          drawn .1 .1 .1 ∙ ap (λ (o : Outcome). countersAfterDrawing o (args .counters .now)) (drawn .0),
+          drawn .1 .1 .1 .0 ∙ ap (λ (o : Outcome). countersAfterDrawing o (args .counters .now)) (drawn .0),
         ),
       ),
     )

@@ -6,7 +6,7 @@ use mir.ValLaws.{toZ-ofZ}
 use Rattle.coverage.specs.declared.Size.{Size}
 use Rattle.mask.specs.declared.Outcome.{Outcome}
 use Rattle.mask.specs.Calls.{maskAfterLaying}
-use Rattle.beamnettle.specs.Calls.{outcomeNumber}
+use Rattle.mask.specs.Calls.{outcomeNumber}
 use borrow.Author.Needs.{needs}
 use Rattle.beamnettle.proofs.beamnettle_lay.Statement.{statement}
 use Rattle.beamnettle.proofs.beamnettle_lay.Tie as tie
@@ -28,7 +28,7 @@ returns c =
     let laid = c .before .before .before .intersect .ensures in
     let offset = ap₂ (λ (x y : ℤ). maskAfterLaying (c .before .before .before .intersect .result) size other-size (record { x = x; y = y }) (args .mask .now) (args .other .now)) (toZ-ofZ w32 (args .offset-x) (c .before .before .before .before .before .before .before .fits .offset-x)) (toZ-ofZ w32 (args .offset-y) (c .before .before .before .before .before .before .before .fits .offset-y)) in (
       c .outcome-number .ensures ∙ ap outcomeNumber (laid .0),
-      laid .1 ∙ offset ∙ ap (λ (o : Outcome). maskAfterLaying o size other-size (record { x = args .offset-x; y = args .offset-y }) (args .mask .now) (args .other .now)) (laid .0),
+      laid .1 .0 ∙ offset ∙ ap (λ (o : Outcome). maskAfterLaying o size other-size (record { x = args .offset-x; y = args .offset-y }) (args .mask .now) (args .other .now)) (laid .0),
     )
 
 pub beamnettle-lay-spec : {M : Type 1} → statement M
