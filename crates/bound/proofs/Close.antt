@@ -19,14 +19,14 @@ use Rattle.winding.specs.Drawn.{drawnShare, crossings, allowedDifference}
 use Rattle.coverage.specs.declared.Size.{Size}
 use Rattle.coverage.specs.Drawing.{drawingRow, drawingOf}
 use Rattle.mask.specs.declared.Outcome.the-variants.{Done}
-use Rattle.mask.specs.Calls.{Lent, cellsOf, drawAnswer, maskAfterDrawing}
+use Rattle.mask.specs.Calls.{Lent, cellsOf, maskAfterDrawing}
 use Rattle.mask.specs.Laws.{CanDraw}
 use Rattle.mask.proofs.Laws.{done-exactly-when}
 use Rattle.coverage.proofs.Places.{drawing-length, drawing-get}
-use Rattle.bound.specs.Close.{byteAt, DrawnBytesAreClose}
-use Rattle.bound.proofs.Piece.{reaches}
-use Rattle.bound.proofs.GroupRow.{countAt, group-ok}
-use Rattle.bound.proofs.Drawing.{GroupsOk, allowedAt, row-near}
+use Rattle.bound.specs.Counted.{reaches, countAt, allowedAt}
+use Rattle.bound.specs.Close.{byteAt, DrawnBytesAreClose, DrawnBytesAreCloseByCell}
+use Rattle.bound.proofs.GroupRow.{group-ok}
+use Rattle.bound.proofs.Drawing.{GroupsOk, row-near}
 
 -- ---- so every group is shown
 groups-ok : (size : Size) (row : ℕ) (gs : List Group) → size .width ≤ 4096 → size .height ≤ 4096 → row < size .height → NearGroups gs → pointsIn gs ≤ 2048 → GroupsOk size row gs
@@ -68,13 +68,6 @@ allowed-le : (gs : List Group) (c row : ℕ) → allowedAt gs c row ≤ᶠ allow
 unfolding allowedDifference
 allowed-le [] c row = refl≤ (natᶠ 0)
 allowed-le (g ∷ gs) c row = add-mono (add-mono (nat-le (count-le (exactEdges (g .contours)) c row)) (refl≤ (1 /2^ 1))) (allowed-le gs c row)
-
--- the statement, by the edges that count for the cell
-abbrev pub DrawnBytesAreCloseByCell : Type 0
-DrawnBytesAreCloseByCell =
-    (size : Size) (words : List ℤ) (mask : List ℕ) (floats counters : ℕ) → drawAnswer size words (record { mask = length mask; floats = floats; counters = counters }) ≡ Done
-    → (column row : ℕ) → column < size .width → row < size .height
-    → Near (natᶠ (byteAt size (maskAfterDrawing Done size words mask) column row)) (natᶠ 255 *ᶠ drawnShare (groupsOf words) column row) (allowedAt (groupsOf words) column row)
 
 pub drawn-bytes-are-close-by-cell : DrawnBytesAreCloseByCell
 drawn-bytes-are-close-by-cell size words mask floats counters done column row c r =

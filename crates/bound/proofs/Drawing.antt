@@ -19,9 +19,10 @@ use Rattle.row.specs.Sweep.{addBytes}
 use Rattle.coverage.specs.declared.Size.{Size}
 use Rattle.coverage.specs.Drawing.{groupRow, addGroups, drawingRow}
 use Rattle.coverage.proofs.Rows.{length-added}
+use Rattle.bound.specs.Counted.{countAt, allowedAt}
 use Rattle.bound.proofs.Entries.{none-plus, plus-none}
 use Rattle.bound.proofs.Share.{share-range, near-nonneg}
-use Rattle.bound.proofs.GroupRow.{countAt, GroupOk}
+use Rattle.bound.proofs.GroupRow.{GroupOk}
 
 -- ---- bytes added
 add-get : (l bs : List ℕ) (c : ℕ) → c < length l → length bs ≡ length l → getD (addBytes l bs) c 0 ≡ min (getD l c 0 + getD bs c 0) 255
@@ -37,11 +38,6 @@ add-get (a ∷ l) (b ∷ bs) (suc c) k e = add-get l bs c (le-of-suc-le-suc k) (
 abbrev pub GroupsOk : Size → ℕ → List Group → Type 0
 GroupsOk size row [] = Unit {0}
 GroupsOk size row (g ∷ gs) = GroupOk size row g × GroupsOk size row gs
-
--- the allowed difference of a cell, by the edges that count for it
-abbrev pub allowedAt : List Group → ℕ → ℕ → Fraction
-allowedAt [] c row = natᶠ 0
-allowedAt (g ∷ gs) c row = natᶠ (countAt (exactEdges (g .contours)) c row) +ᶠ 1 /2^ 1 +ᶠ allowedAt gs c row
 
 module _ (size : Size) (row : ℕ) where
   -- a cell's byte after the groups, from v on

@@ -14,7 +14,7 @@ use Rattle.fraction.proofs.Ring.{cong-add}
 use Rattle.rounding.proofs.Round.{near-to}
 use Rattle.words.specs.Words.{Group, evenOdd, pointsOf}
 use Rattle.words.specs.Writer.{NearContours}
-use Rattle.winding.specs.Winding.{ExactEdge, exactEdges, exactPart, meanWinding, crosses, groupShare}
+use Rattle.winding.specs.Winding.{exactEdges, exactPart, meanWinding, crosses, groupShare}
 use Rattle.winding.proofs.Crosses.{no-part}
 use Rattle.float.specs.Ops.{_⊕_, f0}
 use Rattle.float.specs.Whole.{ofWhole}
@@ -24,18 +24,14 @@ use Rattle.edge.specs.declared.Edge.{Edge}
 use Rattle.edge.specs.Edges.{activeEdges, pieceOf, piecesOf}
 use Rattle.coverage.specs.declared.Size.{Size}
 use Rattle.coverage.specs.Drawing.{groupRow}
+use Rattle.bound.specs.Counted.{reaches, countAt}
 use Rattle.bound.proofs.Entries.{Entry, pick, number, number-le, sumOver, added, added-length, added-get, added-append, area}
 use Rattle.bound.proofs.WindingSum.{wind, bytes-wind}
 use Rattle.bound.proofs.RowSum.{flat, All, row-near}
 use Rattle.bound.proofs.Byte.{group-near}
 use Rattle.bound.proofs.Edges.{WordEdge, NearEdge, wordEdges, exactOf, edges-exact, floatOf, spread, edges-float, isActive, actives, actives-is, Every, every-map, every-active, every-all, sum-cong, active-sum, edges-near}
 use Rattle.bound.proofs.Active.{active-is}
-use Rattle.bound.proofs.Piece.{entriesOf, reaches, EdgeFacts, edge-facts}
-
--- ---- how many edges count for a cell: those that cross its row and are not two columns or more right of it throughout
-abbrev pub countAt : List ExactEdge → ℕ → ℕ → ℕ
-countAt [] c row = 0
-countAt (e ∷ es) c row = cond (crosses e row && reaches e c row) 1 0 + countAt es c row
+use Rattle.bound.proofs.Piece.{entriesOf, EdgeFacts, edge-facts}
 
 -- ---- lengths and cells of a row
 bytes-length : (eo : Bool) (w : Float) (cells : Cells) → length (bytesOf eo w cells) ≡ length cells

@@ -23,7 +23,7 @@ use Rattle.rounding.proofs.Ops.{val-neg, finite-neg}
 use Rattle.rounding.proofs.Exactly.{mul-exact}
 use Rattle.words.specs.Words.{Point}
 use Rattle.words.specs.Writer.{NearPoint}
-use Rattle.winding.specs.Winding.{ExactPoint, ExactEdge, exactCoordinate, exactPoint, exactPart, crossing, crosses}
+use Rattle.winding.specs.Winding.{exactCoordinate, exactPoint, exactPart, crossing, crosses}
 use Rattle.winding.proofs.MeanOf.{G}
 use Rattle.winding.proofs.Cells.{G-near, G-right}
 use Rattle.winding.proofs.Part.{top, bottom, share, part-down-is, part-up-is, height-le}
@@ -34,6 +34,7 @@ use Rattle.float.specs.Whole.{ofWhole}
 use Rattle.row.specs.Row.{Cells}
 use Rattle.edge.specs.declared.Edge.{Edge}
 use Rattle.edge.specs.Edges.{coordinateOf, slopedOf, edgeOf, atOf, pieceOf, piecesOf}
+use Rattle.bound.specs.Counted.{leftOf, reaches}
 use Rattle.bound.proofs.Entries.{Entry, Fine, From, added, tally, count, worth, size, here, before, anywhere, prefix, total}
 use Rattle.bound.proofs.Model.{spanE, span-is}
 use Rattle.bound.proofs.Adds.{Adds, spanError, spanExcess, placeError, edgeError, mass}
@@ -101,13 +102,6 @@ onEdge w h row (e ∷ es) =
 
 abbrev pub entriesOf : ℕ → ℕ → ℕ → WordEdge → List Entry
 entriesOf w h row r = onEdge w h row (floatOf h r)
-
--- ---- which cells an edge counts for: those from two columns left of where it is on. Its two ends in the row decide it
-abbrev leftOf : ExactPoint → ExactPoint → ℕ → ℕ → Bool
-leftOf u v c row = ltᵇ (crossing u v (top u row)) (natᶠ (suc (suc c))) || ltᵇ (crossing u v (bottom v row)) (natᶠ (suc (suc c)))
-
-abbrev pub reaches : ExactEdge → ℕ → ℕ → Bool
-reaches e c row = cond (ltᵇ (e .«from» .y) (e .to .y)) (leftOf (e .«from») (e .to) c row) (leftOf (e .to) (e .«from») c row)
 
 -- ---- WHAT IS SHOWN of an edge that crosses a row
 pub record EdgeFacts (w h row : ℕ) (r : WordEdge) : Type 0 where

@@ -1,5 +1,5 @@
--- Why the formulas are believed: the integral is additive over heights and has its plain value at a level crossing, a part is at most 1 in size, a share is from 0 to 1, and the
--- allowed difference is 1 for each edge that crosses the row and a half for each group. Assumes nothing.
+-- The beliefs of specs/Beliefs.antt: the integral is additive over heights and has its plain value at a level crossing, a part is at most 1 in size, a share is from 0 to 1, and
+-- the allowed difference is 1 for each edge that crosses the row and a half for each group. Assumes nothing.
 use mathlib.Core.Path.{_≡_}
 use mathlib.Core.Logic.{_⊎_, inl, inr}
 use mathlib.Core.List.{List, [], _∷_, _++_}
@@ -16,11 +16,13 @@ use Rattle.fraction.proofs.Clamp.{min-le-right, min-at}
 use Rattle.words.specs.Words.{Group, evenOdd}
 use Rattle.winding.specs.Winding.{ExactPoint, ExactEdge, exactEdges, H, integral, crossing, downPart, exactPart, meanWinding, nonZeroShare, evenOddShare, groupShare}
 use Rattle.winding.specs.Drawn.{sumOfShares, drawnShare, crossings, allowedDifference}
+use Rattle.winding.specs.Beliefs.{IntegralBeliefs, CrossingBeliefs, ShareBeliefs, allEdges, AllowedIs}
 use Rattle.winding.proofs.MeanOf.{mean}
 use Rattle.winding.proofs.Mean.{mean-area, mean-cong, mean-level}
 use Rattle.winding.proofs.Cells.{G-range}
-use Rattle.winding.proofs.Part.{integral-is, top, bottom, down-is, down-none, part-down, part-up, part-level, height-le, slope-of, crossing-step}
-use Rattle.winding.proofs.Fold.{nonzero-range, evenodd-range}
+use Rattle.winding.proofs.Part.{integral-is, top, bottom, down-is, down-none, part-down, part-up, part-level, height-le, slope-of, crossing-start, crossing-end, crossing-step}
+use Rattle.winding.proofs.Crosses.{crosses-yes, crosses-do, no-part}
+use Rattle.winding.proofs.Fold.{nonzero-near, nonzero-range, evenodd-le, evenodd-is, evenodd-near, evenodd-range}
 
 -- ---- the integral is additive over heights: u, z and v are what a straight line has at the heights p, m and q, k being its slope
 module _ (p m q u z v k : Fraction) (first : z -ᶠ u ≈ᶠ (m -ᶠ p) *ᶠ k) (second : v -ᶠ z ≈ᶠ (q -ᶠ m) *ᶠ k) where
@@ -60,7 +62,7 @@ module _ (p m q u z v k : Fraction) (first : z -ᶠ u ≈ᶠ (m -ᶠ p) *ᶠ k) 
           let w = trans≈ h (trans≈ (mul-cong d e) (ring ρ {x = d *ᶠ natᶠ 0} {y = natᶠ 0} (search rep) (search rep) tt)) in
           over (x ∷ y ∷ natᶠ 0 ∷ []) (λ N n X Y O. eq-at N X Y n (omega (arith, O .is, at-eq N (sub-at N X Y) O w)))
 
-  pub integral-additive : integral p m u z +ᶠ integral m q z v ≈ᶠ integral p q u v
+  integral-additive : integral p m u z +ᶠ integral m q z v ≈ᶠ integral p q u v
   integral-additive = rw (integral-is p m u z, integral-is m q z v, integral-is p q u v) (go (le-or-lt k (natᶠ 0)) (le-or-lt (natᶠ 0) k))
     where
       go : (k ≤ᶠ natᶠ 0) ⊎ (natᶠ 0 <ᶠ k) → (natᶠ 0 ≤ᶠ k) ⊎ (k <ᶠ natᶠ 0) → (m -ᶠ p) *ᶠ mean u z +ᶠ (q -ᶠ m) *ᶠ mean z v ≈ᶠ (q -ᶠ p) *ᶠ mean u v
@@ -69,7 +71,7 @@ module _ (p m q u z v k : Fraction) (first : z -ᶠ u ≈ᶠ (m -ᶠ p) *ᶠ k) 
       go (inr a) b = sloped (above-not a)
 
 -- so is an edge's: what it has from p to m and from m to q in a cell is what it has from p to q
-pub edge-additive : (a b : ExactPoint) (c : ℕ) (p m q : Fraction)
+edge-additive : (a b : ExactPoint) (c : ℕ) (p m q : Fraction)
     → integral p m (natᶠ (suc c) -ᶠ crossing a b p) (natᶠ (suc c) -ᶠ crossing a b m) +ᶠ integral m q (natᶠ (suc c) -ᶠ crossing a b m) (natᶠ (suc c) -ᶠ crossing a b q)
     ≈ᶠ integral p q (natᶠ (suc c) -ᶠ crossing a b p) (natᶠ (suc c) -ᶠ crossing a b q)
 edge-additive a b c p m q =
@@ -80,7 +82,7 @@ edge-additive a b c p m q =
         eq-at N (sub-at N (sub-at N C X) (sub-at N C Y)) K n (omega (arith, at-eq N X (add-at N Y J) (crossing-step a b h g), at-eq N K (neg-at N J) (mul-neg (g -ᶠ h) (slope-of a b)))))
 
 -- ---- a level crossing: the height times the held u
-pub integral-level : (p q u v : Fraction) → u ≈ᶠ v → integral p q u v ≈ᶠ (q -ᶠ p) *ᶠ clampᶠ u
+integral-level : (p q u v : Fraction) → u ≈ᶠ v → integral p q u v ≈ᶠ (q -ᶠ p) *ᶠ clampᶠ u
 integral-level p q u v e = rw (integral-is p q u v) (mul-cong (q -ᶠ p) (mean-level u v e))
 
 -- ---- a part is at most 1 in size
@@ -93,7 +95,7 @@ down-within a b c row = go (le-or-lt (bottom b row) (top a row))
         let g = G-range c (crossing a b (top a row)) (crossing a b (bottom b row)) in
         within-weaken (within-mul (within-weaken (within-self (sub-nonneg (of-lt h))) (height-le a b row)) (within-weaken (within-self (g .0)) (g .1))) (unfold _*ᶠ_ in lit tt))
 
-pub part-at-most-one : (e : ExactEdge) (c row : ℕ) → Within (exactPart e c row) (natᶠ 1)
+part-at-most-one : (e : ExactEdge) (c row : ℕ) → Within (exactPart e c row) (natᶠ 1)
 part-at-most-one e c row = go (le-or-lt (e .«from» .y) (e .to .y)) (le-or-lt (e .to .y) (e .«from» .y))
   where
     turned : {x : Fraction} → Within x (natᶠ 1) → Within (negᶠ x) (natᶠ 1)
@@ -108,12 +110,6 @@ part-at-most-one e c row = go (le-or-lt (e .«from» .y) (e .to .y)) (le-or-lt (
     go (inr h) k = rw (part-up (e .«from») (e .to) c row h) (turned (down-within (e .to) (e .«from») c row))
 
 -- ---- shares lie in 0 to 1
-pub nonZero-share-range : (w : Fraction) → (natᶠ 0 ≤ᶠ nonZeroShare w) × (nonZeroShare w ≤ᶠ natᶠ 1)
-nonZero-share-range = nonzero-range
-
-pub evenOdd-share-range : (w : Fraction) → (natᶠ 0 ≤ᶠ evenOddShare w) × (evenOddShare w ≤ᶠ natᶠ 1)
-evenOdd-share-range = evenodd-range
-
 group-share-nonneg : (g : Group) (c row : ℕ) → natᶠ 0 ≤ᶠ groupShare g c row
 group-share-nonneg g c row = go (evenOdd g) (meanWinding (exactEdges (g .contours)) c row)
   where
@@ -132,16 +128,37 @@ drawn-share-at-most-one gs c row = min-le-right (sumOfShares gs c row) (natᶠ 1
 pub drawn-share-nonneg : (gs : List Group) (c row : ℕ) → natᶠ 0 ≤ᶠ drawnShare gs c row
 drawn-share-nonneg gs c row = over (sumOfShares gs c row ∷ natᶠ 0 ∷ natᶠ 1 ∷ []) (λ N n A O I. le-at N O (min-at N n A I) n (omega (arith, O .is, I .is, at-le N O A (sum-nonneg gs c row))))
 
--- ---- the allowed difference: 1 for each edge of any group that crosses the row, and a half for each group
-abbrev pub allEdges : List Group → List ExactEdge
-allEdges [] = []
-allEdges (g ∷ gs) = exactEdges (g .contours) ++ allEdges gs
+pub integral-beliefs : IntegralBeliefs
+integral-beliefs = record {
+  crossing-start = crossing-start;
+  crossing-end = crossing-end;
+  additive = integral-additive;
+  edge-additive = edge-additive;
+  level = integral-level;
+  part-at-most-one = part-at-most-one;
+}
 
+pub crossing-beliefs : CrossingBeliefs
+crossing-beliefs = record { only = crosses-yes; whenever = crosses-do; no-part = λ e column row. no-part e row column }
+
+pub share-beliefs : ShareBeliefs
+share-beliefs = record {
+  nonZero-range = nonzero-range;
+  evenOdd-range = evenodd-range;
+  nonZero-near = λ w v e. nonzero-near;
+  evenOdd-near = λ w v e. evenodd-near;
+  evenOdd-is = λ w. (evenodd-is w .k, evenodd-is w .is);
+  evenOdd-nearest = evenodd-le;
+  drawn-nonneg = drawn-share-nonneg;
+  drawn-at-most-one = drawn-share-at-most-one;
+}
+
+-- ---- the allowed difference: 1 for each edge of any group that crosses the row, and a half for each group
 crossings-append : (l m : List ExactEdge) (row : ℕ) → crossings (l ++ m) row ≡ crossings l row + crossings m row
 crossings-append [] m row = omega arith
 crossings-append (e ∷ l) m row = omega (arith, crossings-append l m row)
 
-pub allowed-is : (gs : List Group) (row : ℕ) → allowedDifference gs row ≈ᶠ natᶠ (crossings (allEdges gs) row) +ᶠ 1 /2^ 1 *ᶠ natᶠ (length gs)
+pub allowed-is : AllowedIs
 unfolding allowedDifference
 allowed-is [] row = over (natᶠ 0 ∷ 1 /2^ 1 *ᶠ natᶠ 0 ∷ []) (λ N n O J. eq-at N O (add-at N O J) n (omega (arith, O .is, scale-at N (1 /2^ 1) O J)))
 allowed-is (g ∷ gs) row =

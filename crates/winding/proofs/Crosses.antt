@@ -11,6 +11,7 @@ use Rattle.fraction.proofs.Linear.{at-le, at-lt, at-eq, le-at, lt-at, eq-at, ne
 use Rattle.fraction.proofs.Order.{refl≈, antisym, le-or-lt}
 use Rattle.fraction.proofs.Clamp.{min-at, max-at, no≤}
 use Rattle.winding.specs.Winding.{ExactEdge, exactPart, crosses}
+use Rattle.winding.specs.Beliefs.{Overlaps}
 use Rattle.winding.proofs.Part.{part, top, bottom, down-none, part-down, part-up, part-level}
 
 -- ---- the test `<` finds it
@@ -31,13 +32,8 @@ module _ (e : ExactEdge) (row : ℕ) where
   abbrev s : Fraction
   s = natᶠ (suc row)
 
-  pub record Overlaps : Type 0 where
-    pub sloped : ¬ (e .«from» .y ≈ᶠ e .to .y)
-    pub above : minᶠ (e .«from» .y) (e .to .y) <ᶠ natᶠ (suc row)
-    pub below : natᶠ row <ᶠ maxᶠ (e .«from» .y) (e .to .y)
-
   -- the upper end lies above the row's lower side, and the lower end below its upper side
-  pub crosses-yes : T (crosses e row) → Overlaps
+  pub crosses-yes : T (crosses e row) → Overlaps e row
   crosses-yes t =
       let h = lit<ᶠ {x = maxᶠ (minᶠ a b) r} {y = minᶠ (maxᶠ a b) s} t in
       record {
@@ -46,7 +42,7 @@ module _ (e : ExactEdge) (row : ℕ) where
         below = over (a ∷ b ∷ r ∷ s ∷ []) (λ N n A B R S. lt-at N R (max-at N n A B) (omega (arith, at-lt N (max-at N n (min-at N n A B) R) (min-at N n (max-at N n A B) S) n h)));
       }
 
-  pub crosses-do : Overlaps → T (crosses e row)
+  pub crosses-do : Overlaps e row → T (crosses e row)
   crosses-do o = of-less (maxᶠ (minᶠ a b) r) (minᶠ (maxᶠ a b) s) (go (le-or-lt a b) (le-or-lt b a))
     where
       both : (a <ᶠ b) ⊎ (b <ᶠ a) → maxᶠ (minᶠ a b) r <ᶠ minᶠ (maxᶠ a b) s
