@@ -1,5 +1,5 @@
--- What the casts are, in exact fractions: a whole number up to 2 ^ 24 as a float is that number, and a float cut to w bits is the whole number at it or
--- below it. Assumes nothing.
+-- What the casts are (`CastBeliefs` of specs/Beliefs.antt), in exact fractions: a whole number up to 2 ^ 24 as a float is that number, and a float cut to w bits is the whole
+-- number at it or below it. Assumes nothing.
 use mathlib.Core.Path.{_≡_}
 use mathlib.Core.Bool.{true, false}
 use Prim.Native.Nat.{ℕ, _+_, _*_, _/_, _-_, _^_, _≤_, _<_, min}
@@ -16,6 +16,7 @@ use Rattle.rounding.specs.Value.{val}
 use Rattle.rounding.proofs.Base.{value-is}
 use Rattle.rounding.specs.Rounding.{Is}
 use Rattle.float.specs.Whole.{columnOf, byteOf, ofWhole}
+use Rattle.float.specs.Beliefs.{CastBeliefs}
 
 -- a whole number as a float, up to 2 ^ 24: finite, and worth that number
 pub ofWhole-exact : (n : ℕ) → n ≤ 2 ^ 24 → Is (natᶠ n) (ofWhole n)
@@ -40,3 +41,6 @@ column-below = cut-below 13
 
 pub byte-below : (x : Float) → T (finite x) → natᶠ 0 ≤ᶠ val x → val x <ᶠ natᶠ (2 ^ 8) → (natᶠ (byteOf x) ≤ᶠ val x) × (val x <ᶠ natᶠ (byteOf x + 1))
 byte-below = cut-below 8
+
+pub cast-beliefs : CastBeliefs
+cast-beliefs = record { ofWhole-exact = ofWhole-exact; cut-below = cut-below; column-below = column-below; byte-below = byte-below }

@@ -1,4 +1,5 @@
--- What `floorOf` and `ceilOf` are, in exact fractions, for every finite value of binary32: the whole number at x or next to it, below or above. Assumes nothing.
+-- What `floorOf` and `ceilOf` are (`IntegralBeliefs` of specs/Beliefs.antt), in exact fractions, for every finite value of binary32: the whole number at x or next to it, below or
+-- above. Assumes nothing.
 use mathlib.Core.Path.{_≡_, refl, sym, ap, _∙_, subst}
 use mathlib.Core.List.{[], _∷_}
 use mathlib.Core.Bool.{Bool, true, false, cond}
@@ -20,11 +21,12 @@ use Rattle.fraction.proofs.Order.{of-eq, sym≈}
 use Rattle.rounding.specs.Value.{signed, signedᶠ, val}
 use Rattle.rounding.specs.Rounding.{Is}
 use Rattle.rounding.proofs.Base.{value-is, fits-parts, own-rounding}
-use Rattle.float.specs.Whole.{wholeDiv, integralOf, floorOf, ceilOf}
+use Rattle.float.specs.Whole.{wholeDiv, integralOf}
+use Rattle.float.specs.Beliefs.{IntegralBeliefs}
 use Rattle.float.proofs.Whole.{whole-exact, step-le}
 
 -- Y is at X or less than 1 below it, or (`true`) above it
-abbrev pub Beside : Bool → Fraction → Fraction → Type 0
+abbrev Beside : Bool → Fraction → Fraction → Type 0
 Beside false X Y = (Y ≤ᶠ X) × (X <ᶠ Y +ᶠ natᶠ 1)
 Beside true X Y = (X ≤ᶠ Y) × (Y <ᶠ X +ᶠ natᶠ 1)
 
@@ -72,7 +74,7 @@ exact t s m (negsuc k) h = round-whole binary32 s _ (le-trans (step-le t (m * 1 
     below (suc m) h = let p = fits-parts binary32 s m (negsuc k) h .0 in omega (arith, div-le-self (suc m * 1) (2 ^ suc k))
 
 -- ONE LAW for both directions: finite and a whole number, at x or less than 1 away on the side of the direction
-pub integral-beside : (u : Bool) (x : Float) → T (finite x) → T (fits binary32 x)
+integral-beside : (u : Bool) (x : Float) → T (finite x) → T (fits binary32 x)
     → (n : Whole) × Is (wholeᶠ n) (integralOf u x) × Beside u (val x) (val (integralOf u x))
 unfolding integralOf val
 integral-beside u nan p h = absurd p
@@ -84,12 +86,8 @@ integral-beside u (fin s m e) p h =
     let c = whole-cut (unlike s u) a (down e) (down-pos e) in
     (signed s w, record { fine = v .0; eq = v .1 }, beside-same u (signedᶠ s a (down e) (down-pos e)) (sym≈ (v .1)) (beside u s w a (down e) (down-pos e) c))
 
--- floor: the largest whole number that is no larger
-pub floor-below : (x : Float) → T (finite x) → T (fits binary32 x)
-    → (n : Whole) × Is (wholeᶠ n) (floorOf x) × (val (floorOf x) ≤ᶠ val x) × (val x <ᶠ val (floorOf x) +ᶠ natᶠ 1)
-floor-below x p h = let i = integral-beside false x p h in (i .0, i .1, i .2 .0, i .2 .1)
-
--- ceiling: the smallest whole number that is no smaller
-pub ceil-above : (x : Float) → T (finite x) → T (fits binary32 x)
-    → (n : Whole) × Is (wholeᶠ n) (ceilOf x) × (val x ≤ᶠ val (ceilOf x)) × (val (ceilOf x) <ᶠ val x +ᶠ natᶠ 1)
-ceil-above x p h = let i = integral-beside true x p h in (i .0, i .1, i .2 .0, i .2 .1)
+pub integral-beliefs : IntegralBeliefs
+integral-beliefs = record {
+  floor-below = λ x p h. let i = integral-beside false x p h in (i .0, i .1, i .2 .0, i .2 .1);
+  ceil-above = λ x p h. let i = integral-beside true x p h in (i .0, i .1, i .2 .0, i .2 .1);
+}

@@ -1,8 +1,8 @@
--- Why `sqrtOf` is the format's value nearest to the root, ties to even, as whole numbers say it. The root is measured in steps: its square is n / u,
+-- Why `sqrtOf` is the format's value nearest to the root, ties to even, as whole numbers say it (`RootBeliefs` of specs/Beliefs.antt). The root is measured in steps: its square is n / u,
 -- u being a step's square. The whole number q that is kept has the root between q - 1/2 and q + 1/2, and is even where the root is one of these: both sides
 -- are doubled and squared. Assumes nothing.
 use mathlib.Core.Path.{_≡_, refl, sym, ap, _∙_, subst}
-use mathlib.Core.Logic.{_⊎_, inl, inr}
+use mathlib.Core.Logic.{inl, inr}
 use mathlib.Core.Bool.{false}
 use Prim.Native.Nat.{ℕ, zero, suc, _+_, _-_, _*_, _/_, _%_, _^_, _≤_, _<_, compare, Ordering}
 use native.Mathlib.Nat.{le-trans, le-of-eq, le-of-lt, lt-irrefl, lt-of-lt-of-le, lt-of-le-of-lt, eq-or-lt-of-le, eq-zero-or-pos, mul-le-mul-right}
@@ -19,28 +19,23 @@ use lib.Ieee.Scale.{finite}
 use Rattle.rounding.proofs.Grid.{prec-pos}
 use Rattle.rounding.proofs.Base.{value-is, fits-parts}
 use Rattle.float.specs.Root.{wholeRoot, roundRoot, sqrtOf}
+use Rattle.float.specs.Beliefs.{NearestRoot, RootOf, RootBeliefs}
 use Rattle.float.proofs.Pattern.{split}
 use Rattle.float.proofs.Shift.{cmp-lt, cmp-eq, cmp-gt}
 use Rattle.float.proofs.Roots.{IsRoot, whole-root-is, root-lt, sq-mono, in-steps}
 
 -- `wholeRoot n` is the largest number whose square is at most n
-pub wholeRoot-largest : (n : ℕ) → (wholeRoot n * wholeRoot n ≤ n) × ((r : ℕ) → r * r ≤ n → r ≤ wholeRoot n)
+wholeRoot-largest : (n : ℕ) → (wholeRoot n * wholeRoot n ≤ n) × ((r : ℕ) → r * r ≤ n → r ≤ wholeRoot n)
 unfolding IsRoot
 wholeRoot-largest n =
     let i = whole-root-is n in
     (i .0, λ r h. let l : r < wholeRoot n + 1 = root-lt r (wholeRoot n + 1) (lt-of-le-of-lt h (i .1)) in omega arith)
 
--- q - 1/2 ≤ root ≤ q + 1/2, and q is even where the root is at an end
-pub record NearestRoot (n u q : ℕ) : Type 0 where
-  pub low-end : (2 * q - 1) * (2 * q - 1) * u ≤ n * 4
-  pub high-end : n * 4 ≤ (2 * q + 1) * (2 * q + 1) * u
-  pub even : (n * 4 ≡ (2 * q - 1) * (2 * q - 1) * u) ⊎ (n * 4 ≡ (2 * q + 1) * (2 * q + 1) * u) → q % 2 ≡ 0
-
 -- how the root compares with its whole part and a half, and the whole number that is kept
-abbrev pub side : ℕ → ℕ → Ordering
+abbrev side : ℕ → ℕ → Ordering
 side n u = compare (n * 4) ((2 * wholeRoot (n / u) + 1) * (2 * wholeRoot (n / u) + 1) * u)
 
-abbrev pub kept-root : ℕ → ℕ → ℕ
+abbrev kept-root : ℕ → ℕ → ℕ
 kept-root n u = nearest (wholeRoot (n / u)) (side n u)
 
 module _ (n u : ℕ) (U : 0 < u) where
@@ -95,7 +90,7 @@ module _ (n u : ℕ) (U : 0 < u) where
       }
 
   -- the number that is kept is nearest
-  pub root-nearest : NearestRoot n u (kept-root n u)
+  root-nearest : NearestRoot n u (kept-root n u)
   root-nearest =
       elim (split (n * 4) half) [
         | inl l ↦ kept (cmp-lt (n * 4) half l) (at-whole (le-of-lt l) (λ e. absurd (lt-irrefl half (lt-of-le-of-lt (le-of-eq (sym e)) l))))
@@ -114,16 +109,7 @@ module _ (n u : ℕ) (U : 0 < u) where
       tie (suc zero) z e = subst (NearestRoot n u) (omega arith) (at-next (le-of-eq (sym e)) (λ _. omega arith))
       tie (suc (suc b)) z e = absurd (omega arith)
 
--- ---- the root of num / den in a format: q steps of 2 ^ k of the format's smallest values. The step is the format's own at the root, which has `prec` whole digits
--- in such steps, or fewer and k is 0
-pub record RootOf (f : Format) (num den : ℕ) (r : Float) : Type 0 where
-  pub q : ℕ
-  pub k : ℕ
-  pub is : r ≡ units f false q k
-  pub root : NearestRoot (num * (2 ^ low f * 2 ^ low f)) (den * (2 ^ k * 2 ^ k)) q
-  pub no-more : num * (2 ^ low f * 2 ^ low f) < 2 ^ prec f * 2 ^ prec f * (den * (2 ^ k * 2 ^ k))
-  pub full : (k ≡ 0) ⊎ (hid f * hid f * (den * (2 ^ k * 2 ^ k)) ≤ num * (2 ^ low f * 2 ^ low f))
-
+-- ---- the root of num / den in a format
 module _ (f : Format) (num den : ℕ) (D : 0 < den) where
   abbrev n : ℕ
   n = num * (2 ^ low f * 2 ^ low f)
@@ -154,7 +140,7 @@ module _ (f : Format) (num den : ℕ) (D : 0 < den) where
       le-trans (le-of-eq (sym (in-steps (prec f - 1) k den)))
       (le-trans (mul-le-mul-right den (sq-mono (size-reaches v (prec f - 1 + k) z))) (le-div-iff-mul-le D .0 (whole-root-is (n / den) .0)))
 
-  pub roundRoot-nearest : RootOf f num den (roundRoot f num den)
+  roundRoot-nearest : RootOf f num den (roundRoot f num den)
   unfolding roundRoot
   roundRoot-nearest = record {
     q = kept-root n u;
@@ -169,7 +155,7 @@ module _ (f : Format) (num den : ℕ) (D : 0 < den) where
   }
 
 -- THE ROOT of a value above 0 is the format's value nearest to it, ties to even
-pub sqrt-nearest : (f : Format) (m : ℕ) (e : ℤ) → RootOf f (suc m * up e) (down e) (sqrtOf f (fin false (suc m) e))
+sqrt-nearest : (f : Format) (m : ℕ) (e : ℤ) → RootOf f (suc m * up e) (down e) (sqrtOf f (fin false (suc m) e))
 unfolding sqrtOf
 sqrt-nearest f m e = roundRoot-nearest f (suc m * up e) (down e) (down-pos e)
 
@@ -182,7 +168,7 @@ in-range : (p K den num L H : ℕ) → 0 < L → p * p * (den * (K * K)) ≤ num
 in-range p K den num L H l a b =
     root-lt (p * K) (2 * H * L) (lt-of-mul-lt-mul-right den (omega (arith, a, mul-lt-mul-of-pos-right b (mul-pos l l))))
 
-pub sqrt-finite : (f : Format) (m : ℕ) (e : ℤ) → T (fits f (fin false (suc m) e)) → T (finite (sqrtOf f (fin false (suc m) e)))
+sqrt-finite : (f : Format) (m : ℕ) (e : ℤ) → T (fits f (fin false (suc m) e)) → T (finite (sqrtOf f (fin false (suc m) e)))
 sqrt-finite f m e t =
     let r = sqrt-nearest f m e in
     let q = r .q in
@@ -203,3 +189,6 @@ sqrt-finite f m e t =
     under-range : (q k : ℕ) {H E : ℕ} → (2 * q - 1) * 2 ^ k < H → H ≤ E → q * 2 ^ k < E
     under-range zero k a g = omega arith
     under-range (suc q) k a g = lt-of-le-of-lt (mul-le-mul-right (2 ^ k) (omega arith)) (lt-of-lt-of-le a g)
+
+pub root-beliefs : RootBeliefs
+root-beliefs = record { wholeRoot-largest = wholeRoot-largest; sqrt-nearest = sqrt-nearest; sqrt-finite = sqrt-finite }

@@ -1,5 +1,5 @@
 -- Square roots, rounded once, over the width, and hypot. Definitions only.
--- There are no real numbers here. The whole part of a root is found by squares alone (`wholeRoot`: proofs/RootBelief.antt shows that it is the largest number
+-- There are no real numbers here. The whole part of a root is found by squares alone (`wholeRoot`: `wholeRoot-largest` in Beliefs.antt says that it is the largest number
 -- whose square is at most n), and whether the root is below, at or above q + 1/2 is asked with both sides squared.
 use Prim.Native.Nat.{ℕ, zero, suc, _+_, _-_, _*_, _/_, _^_, compare}
 use mathlib.Core.Bool.{true, false, cond}
@@ -33,8 +33,8 @@ roundRoot f num den =
     let q = wholeRoot (n / u) in
     units f false (nearest q (compare (n * 4) ((2 * q + 1) * (2 * q + 1) * u))) k
 
--- IEEE 754's squareRoot (document 01: 'root is IEEE 754's'): a zero stays as it is, and below zero there is none. That it is the nearest value is shown in
--- proofs/RootBelief.antt, `sqrt-nearest`
+-- IEEE 754's squareRoot (document 01: 'root is IEEE 754's'): a zero stays as it is, and below zero there is none. That it is the nearest value is
+-- `sqrt-nearest` in Beliefs.antt
 unfoldable pub sqrtOf : Format → Float → Float
 unfolding roundRoot
 sqrtOf f nan = nan

@@ -22,7 +22,7 @@ integralOf u nan = nan
 integralOf u (inf s) = inf s
 integralOf u (fin s m e) = round binary32 s (wholeDiv (unlike s u) (m * up e) (down e)) 1
 
--- floor, IEEE 754's roundToIntegralTowardNegative: the largest whole number that is no larger (proofs/IntegralBelief.antt, `floor-below`)
+-- floor, IEEE 754's roundToIntegralTowardNegative: the largest whole number that is no larger (`floor-below` in Beliefs.antt)
 abbrev pub floorOf : Float → Float
 floorOf x = integralOf false x
 
@@ -39,6 +39,6 @@ columnOf x = toUnsigned 13 x
 abbrev pub byteOf : Float → ℕ
 byteOf x = toUnsigned 8 x
 
--- IEEE 754's convertFromInt, Rust's `as f32`. Up to 2 ^ 24 it is exact (proofs/CastBelief.antt, `ofWhole-exact`)
+-- IEEE 754's convertFromInt, Rust's `as f32`. Up to 2 ^ 24 it is exact (`ofWhole-exact` in Beliefs.antt)
 abbrev pub ofWhole : ℕ → Float
 ofWhole n = ofInt binary32 (pos n)

@@ -13,6 +13,7 @@ use borrow.Author.Tests.{le-ltb}
 use Rattle.float.specs.Ops.{f0, f1, _⊖_, _⊗_, _⊘_}
 use Rattle.float.specs.Whole.{ofWhole}
 use Rattle.row.specs.Row.{Cells, addOf, insideOf, clipOf, leftEnd, rightEnd, spanBy, spanOf}
+use Rattle.row.specs.Laws.{ThreeAreEnough}
 use Rattle.row.proofs.Adding.{length-add, pick-true, pick-false}
 
 -- ---- floats
@@ -149,7 +150,7 @@ enough (suc n) (suc m) cells xa xb a h g =
     enough n m l xc xd b (omega arith) (omega arith))
 
 -- a call more, or any number of them, changes nothing
-pub three-are-enough : (n : ℕ) (cells : Cells) (xa xb a : Float) → spanBy (4 + n) cells xa xb a ≡ spanBy 3 cells xa xb a
+pub three-are-enough : ThreeAreEnough
 three-are-enough n cells xa xb a = let o = outside-le (length cells) xa xb in enough (4 + n) 3 cells xa xb a (omega arith) (omega arith)
 
 span-again : (cells : Cells) (xa xb a : Float) → spanOf cells xa xb a ≡ clipOf spanOf cells (leftEnd xa xb) (rightEnd xa xb) a

@@ -12,9 +12,9 @@ use lib.Ieee.Exact.{HasValue}
 use lib.Ieee.Fits.{up-pos, down-pos}
 use lib.Ieee.Back.{unsigned-back, round-whole}
 use borrow.Author.Tests.{ltb-true, ltb-false, eq-eqb, ne-eqb, lt-ltb, le-ltb, le-leb}
-use Rattle.float.specs.Ops.{f0}
 use Rattle.float.specs.Whole.{integralOf, floorOf, ceilOf, columnOf, ofWhole}
 use Rattle.row.specs.Row.{ceilColumn}
+use Rattle.row.specs.Laws.{ColumnsAre}
 
 -- a column comes back from its float
 pub column-back : (n : ℕ) → n ≤ 8191 → columnOf (ofWhole n) ≡ n
@@ -71,13 +71,7 @@ module _ (m : ℕ) (e : ℤ) (low : columnOf (fin false m e) < 8191) where
           let b : lt (ofWhole (columnOf x)) x ≡ true = ap (λ (n : ℕ). lt (ofWhole n) x) c ∙ below ∙ lt-ltb (whole * down e) (m * up e) (omega arith) in
           ap (λ (p : Bool). columnOf (ofWhole (cond p whole (whole + 1)))) (ne-eqb (m * up e % down e) 0 (λ q. omega arith)) ∙ column-back (whole + 1) (omega arith) ∙ sym (ap (λ (p : Bool). cond p (columnOf x + 1) (columnOf x)) b ∙ ap (λ (n : ℕ). n + 1) c)
 
--- what the definitions lean on
-pub record Columns (x : Float) : Type 0 where
-  pub floor : floorOf x ≡ ofWhole (columnOf x)
-  pub floor-column : columnOf (floorOf x) ≡ columnOf x
-  pub ceil-column : columnOf (ceilOf x) ≡ ceilColumn x
-
-pub columns : (x : Float) → le f0 x ≡ true → ((e : ℤ) → x ≡ fin true 0 e → ⊥) → columnOf x < 8191 → Columns x
+pub columns : ColumnsAre
 unfolding le lt eq ofBits toUnsigned
 columns nan h n l = absurd (false≢true h)
 columns (inf true) h n l = absurd (false≢true h)

@@ -1,6 +1,6 @@
 -- One row of cells and what an edge's piece adds to it: `Row` of coverage.rs, let by let, over IEEE 754's binary32. Definitions only.
 -- For a number from 0 to the width the Rust's `lo.floor() as usize` is `columnOf lo`, its `lo.floor()` is that column as a float, and `hi.ceil() as usize`
--- is `ceilColumn hi` (proofs/Floor.antt).
+-- is `ceilColumn hi` (`ColumnsAre` in Laws.antt).
 use Prim.Native.Nat.{ℕ, zero, suc, _+_, _-_}
 use mathlib.Core.Bool.{cond}
 use mathlib.Core.List.{List}
@@ -85,7 +85,7 @@ abbrev pub rightEnd : Float → Float → Float
 rightEnd xa xb = cond (le xa xb) xb xa
 
 -- `Row::span`, of at most n calls of itself: the piece of an edge from xa at its top to xb at its bottom, `area` the height that it spans, signed.
--- Two ends can be cut off, so 3 calls are enough for every piece
+-- Two ends can be cut off, so 3 calls are enough for every piece (`ThreeAreEnough` in Laws.antt)
 unfoldable pub spanBy : ℕ → Cells → Float → Float → Float → Cells
 unfolding clipOf
 spanBy zero cells xa xb area = cells

@@ -16,8 +16,8 @@ use Rattle.float.specs.Simple.{absOf, minOf}
 use Rattle.row.specs.Row.{Cells}
 use Rattle.row.specs.Sweep.{shareOf, coveredOf, bytesOf, addBytes}
 use Rattle.sweep.specs.declared.Run.{Run}
-use Rattle.sweep.specs.Sweeping.{plusOf, filledOf, Blank, lineFrom, Reached, Moved}
-use Rattle.sweep.proofs.Winding.{Steady, steady-zero, steady-more}
+use Rattle.sweep.specs.Sweeping.{plusOf, filledOf, Blank, lineFrom, Steady, Reached, Moved}
+use Rattle.sweep.proofs.Winding.{steady-zero, steady-more}
 
 -- ---- lines
 

@@ -18,6 +18,8 @@ use Rattle.float.proofs.Simple.{flat}
 use Rattle.float.specs.Ops.{f0, _⊕_}
 use Rattle.rounding.proofs.Base.{divides, fits-parts, own-rounding}
 use Rattle.rounding.proofs.Grid.{unit-small}
+use Rattle.sweep.specs.Sweeping.{Steady}
+use Rattle.sweep.specs.Laws.{RunningSumIsSteady}
 
 -- ---- a value of the format is written in one way
 
@@ -204,10 +206,6 @@ module _ (f : Format) (s t : Bool) (a b c v w : ℕ) (C : 0 < c) (A : a * 2 ^ lo
 
 -- ---- windings
 
--- adding 0.0 changes nothing
-abbrev pub Steady : Float → Type 0
-Steady w = w ⊕ f0 ≡ w
-
 pub steady-zero : Steady f0
 unfolding fits ofBits
 steady-zero = zero-more f0 tt (λ h. let z : _≡_ {A = ℕ} 0 1 = cc in omega arith)
@@ -239,3 +237,6 @@ steady-more w a t h = zero-more (w ⊕ a) (add-fits binary32 w a) (go w a (subst
         let v = in-units binary32 t k d q in
         sum-some binary32 s t (m * up g * down d) (k * up d * down g) (down g * down d) (u .0) (v .0) (mul-pos (down-pos g) (down-pos d))
         (scaled (m * up g) (down d) (down g) (2 ^ 149) (u .0) (u .1)) (scaled (k * up d) (down g) (down d) (2 ^ 149) (v .0) (v .1) ∙ ap (λ (x : ℕ). v .0 * x) (mul-comm (down d) (down g))) (λ h. u .2 (above s m g p n h)) e
+
+pub running-sum-is-steady : RunningSumIsSteady
+running-sum-is-steady = record { start = steady-zero; more = steady-more; never-minus-zero = minus-zero-moves }

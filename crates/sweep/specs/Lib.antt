@@ -1,2 +1,3 @@
--- Sweeping: what the functions of a row's sweep promise to each other.
+-- Sweeping: what the functions of a row's sweep promise to each other. Laws: why cells that hold 0.0 may be passed over.
 pub mod Sweeping
+pub mod Laws

@@ -5,7 +5,7 @@ use mathlib.Core.Bool.{Bool}
 use mathlib.Core.List.{List, _++_, map}
 use Prim.Native.Nat.{ℕ, _+_, _-_, _≤_, _<_, min}
 use lib.ListN.{length, getD, take, drop}
-use lib.Ieee.{nan}
+use lib.Ieee.{Float, nan}
 use Rattle.float.specs.Ops.{f0, _⊕_}
 use Rattle.row.specs.Row.{Cells}
 use Rattle.row.specs.Sweep.{coveredOf, bytesOf, addBytes}
@@ -28,11 +28,15 @@ Blank cells from to = (cell : ℕ) → from ≤ cell → cell < to → cell < le
 abbrev pub lineFrom : Bool → List ℕ → Cells → Run → List ℕ
 lineFrom evenOdd line cells run = take (run .from) line ++ addBytes (drop (run .from) line) (bytesOf evenOdd (run .winding) (drop (run .from) cells))
 
+-- adding 0.0 changes nothing
+abbrev pub Steady : Float → Type 0
+Steady winding = winding ⊕ f0 ≡ winding
+
 -- A run of a row: its coverage is that of its winding, and 0.0 more leaves its winding as it is
 pub record Reached (evenOdd : Bool) (line : List ℕ) (cells : Cells) (run : Run) : Type 0 where
   pub same : length line ≡ length cells
   pub within : run .from ≤ length line
-  pub steady : run .winding ⊕ f0 ≡ run .winding
+  pub steady : Steady (run .winding)
   pub byte : run .coverage ≡ coveredOf evenOdd (run .winding)
 
 -- from a run to a later one: the line that the row comes to is the same
