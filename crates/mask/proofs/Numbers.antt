@@ -1,11 +1,9 @@
 -- Document 01's number of each call (specs/Laws.antt, NumbersExactlyWhen). Assumes nothing.
 use mathlib.Core.Path.{_≡_, refl, sym, ap, subst}
 use mathlib.Core.List.{List}
-use Prim.Native.Nat.{ℕ, _≤_}
+use Prim.Native.Nat.{ℕ}
 use native.Mathlib.Omega.{arith}
 use lib.IntN.{ℤ}
-use Rattle.fault.specs.declared.Fault.{Fault}
-use Rattle.fault.specs.Number.{numberOf}
 use Rattle.fault.proofs.Numbers.{cause-numbers}
 use Rattle.coverage.specs.declared.Size.{Size}
 use Rattle.mask.specs.Calls.{Lent, outcomeNumber, drawAnswer, layAnswer}

@@ -1,5 +1,5 @@
 -- What a word reader finds ahead: a word of the list, or its end; moving on; and what a word says by itself. Assumes nothing.
-use mathlib.Core.Path.{_≡_, refl, sym, _∙_}
+use mathlib.Core.Path.{_≡_, refl, sym, ap, _∙_}
 use mathlib.Core.Bool.{Bool, true, false, true≢false}
 use mathlib.Core.List.{List, [], _∷_}
 use Prim.Native.Nat.{ℕ, _+_, _≤_, _<_}
@@ -13,7 +13,9 @@ use Rattle.fault.specs.declared.Fault.the-variants.{ListEndsEarly, CountOutOfRa
 use Rattle.words.specs.Words.{beyond, readCount, readCoordinate}
 use Rattle.words.specs.Scan.{countedOf, checkedOf}
 use Rattle.words.specs.Reader.{wordOf, aloneOf}
+use Rattle.words.specs.declared.Counted.{Counted}
 use Rattle.words.specs.declared.Counted.the-variants as counted
+use Rattle.words.specs.declared.Checked.{Checked}
 use Rattle.words.specs.declared.Checked.the-variants as checked
 use Rattle.words.specs.declared.Word.{Word}
 use Rattle.words.specs.declared.Word.the-variants.{Value, End}
@@ -83,13 +85,13 @@ module _ (t : Word) where
     good-coordinate h = rw (is, h) refl
 
 -- the first of some words says what is read of them
-pub first-count : (l : List ℤ) → countedOf (readCount (aloneOf (wordOf l))) ≡ countedOf (readCount l)
+first-count : (l : List ℤ) → countedOf (readCount (aloneOf (wordOf l))) ≡ countedOf (readCount l)
 unfolding readCount
 first-count [] = refl
 first-count (pos n ∷ l) = refl
 first-count (negsuc n ∷ l) = refl
 
-pub first-coordinate : (l : List ℤ) → checkedOf (readCoordinate (aloneOf (wordOf l))) ≡ checkedOf (readCoordinate l)
+first-coordinate : (l : List ℤ) → checkedOf (readCoordinate (aloneOf (wordOf l))) ≡ checkedOf (readCoordinate l)
 unfolding readCoordinate
 first-coordinate [] = refl
 first-coordinate (w ∷ l) = go (beyond w) refl
@@ -97,3 +99,10 @@ first-coordinate (w ∷ l) = go (beyond w) refl
     go : (b : Bool) → beyond w ≡ b → checkedOf (readCoordinate (w ∷ [])) ≡ checkedOf (readCoordinate (w ∷ l))
     go true e = rw e refl
     go false e = rw e refl
+
+-- what a word says by itself, of the list that it stands first in
+pub count-of : {r : Counted} {t : Word} (l : List ℤ) → r ≡ countedOf (readCount (aloneOf t)) → t ≡ wordOf l → r ≡ countedOf (readCount l)
+count-of l e w = e ∙ ap (λ (t : Word). countedOf (readCount (aloneOf t))) w ∙ first-count l
+
+pub coordinate-of : {r : Checked} {t : Word} (l : List ℤ) → r ≡ checkedOf (readCoordinate (aloneOf t)) → t ≡ wordOf l → r ≡ checkedOf (readCoordinate l)
+coordinate-of l e w = e ∙ ap (λ (t : Word). checkedOf (readCoordinate (aloneOf t))) w ∙ first-coordinate l

@@ -71,7 +71,8 @@ module _ {M : Type 1} (𝓤 : URA M) (H : Heap 𝓤) (A : Atoms 𝓤) (W : Given
         qed W ((‵ (flft κ q) ⊛ ‵ ftrue) ∷ ‵ (owns (ShrSlice (named 0) κ i32 ∷ usize ∷ []) (s, (n, tt)) (entering κ s n)) ∷ []) ∵
         move ! (1 ∷ []) $ fsplit ! $ move ! (1 ∷ []) $ drop ! $ use1 W (‵ (ListOwn κ s) ⊛ ‵ (ListOwn κ s)) (shr-slice-copy 𝓤 H A W (named 0) κ i32 .twice s (listVal s ∷ [])) $ split ! $
         nothing ! $ owned ! usize (Is usize) (uint-makes 𝓤 H A W w64) n _ (refl, small) $ fjoin ! $ move ! (1 ∷ 0 ∷ []) $ fjoin ! $ move ! (2 ∷ 0 ∷ []) $
-        use2 W (raw (New 𝓤 H A mem run .pre to-new)) (qed W ((‵ (flft κ q) ⊛ ‵ ftrue) ∷ ‵ (owns (ShrSlice (named 0) κ i32 ∷ usize ∷ []) (s, (n, tt)) (entering κ s n)) ∷ []) ∵ join ! $ frame ! $ done !) $ frame ! $ done !
+        use2 W (raw (New 𝓤 H A mem run .pre to-new)) (qed W ((‵ (flft κ q) ⊛ ‵ ftrue) ∷ ‵ (owns (ShrSlice (named 0) κ i32 ∷ usize ∷ []) (s, (n, tt)) (entering κ s n)) ∷ []) ∵ join ! $
+        frame ! $ done !) $ frame ! $ done !
 
     -- what is known of the reader made
     abbrev pub Made : WordReader → Type 0

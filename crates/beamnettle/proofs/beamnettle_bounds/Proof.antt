@@ -9,7 +9,6 @@ use Rattle.shape.specs.declared.RoundedBox.{RoundedBox}
 use Rattle.shape.specs.declared.BoundsAnswer.{BoundsAnswer}
 use Rattle.shape.specs.declared.BoundsAnswer.the-variants.{Refused}
 use Rattle.shape.specs.Calls.{boundsCall}
-use Rattle.beamnettle.specs.Lent.{boxIn}
 use Rattle.beamnettle.specs.Calls.{boundsNumber, boundsAfter, boundsLent}
 use Rattle.beamnettle.proofs.Short.{kept, turned}
 use Rattle.beamnettle.proofs.beamnettle_bounds.Statement.{statement}

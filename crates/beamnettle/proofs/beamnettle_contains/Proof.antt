@@ -7,10 +7,9 @@ use mathlib.Core.Path.{_≡_, ap, _∙_}
 use Rattle.fault.specs.declared.Fault.the-variants.{BufferTooShort}
 use Rattle.shape.specs.declared.ClipCoverage.{ClipCoverage}
 use Rattle.shape.specs.declared.RoundedBox.{RoundedBox}
-use Rattle.shape.specs.declared.TestAnswer.{TestAnswer}
 use Rattle.shape.specs.declared.TestAnswer.the-variants.{Refused}
 use Rattle.shape.specs.Calls.{containsCall}
-use Rattle.beamnettle.specs.Lent.{boxIn, coverageIn}
+use Rattle.beamnettle.specs.Lent.{coverageIn}
 use Rattle.beamnettle.specs.Calls.{testNumber, containsLent}
 use Rattle.beamnettle.proofs.Short.{kept, turned}
 use Rattle.beamnettle.proofs.beamnettle_contains.Statement.{statement}

@@ -9,7 +9,6 @@ use Rattle.shape.specs.declared.RoundedBox.{RoundedBox}
 use Rattle.shape.specs.declared.CoverageAnswer.{CoverageAnswer}
 use Rattle.shape.specs.declared.CoverageAnswer.the-variants.{Refused}
 use Rattle.shape.specs.Calls.{coverageCall}
-use Rattle.beamnettle.specs.Lent.{boxIn}
 use Rattle.beamnettle.specs.Calls.{coverageNumber, coverageAfter, coverageLent}
 use Rattle.beamnettle.proofs.Short.{kept, turned}
 use Rattle.beamnettle.proofs.beamnettle_coverage.Statement.{statement}

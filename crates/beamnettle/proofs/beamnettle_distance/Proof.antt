@@ -9,7 +9,6 @@ use Rattle.shape.specs.declared.ClipCoverage.{ClipCoverage}
 use Rattle.shape.specs.declared.DistanceAnswer.{DistanceAnswer}
 use Rattle.shape.specs.declared.DistanceAnswer.the-variants.{Refused}
 use Rattle.shape.specs.Calls.{distanceCall}
-use Rattle.beamnettle.specs.Lent.{coverageIn}
 use Rattle.beamnettle.specs.Calls.{distanceNumber, distanceAfter, distanceLent}
 use Rattle.beamnettle.proofs.Short.{kept, turned}
 use Rattle.beamnettle.proofs.beamnettle_distance.Statement.{statement}

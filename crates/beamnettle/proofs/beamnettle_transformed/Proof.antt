@@ -10,7 +10,7 @@ use Rattle.geometry.specs.declared.Transform2D.{Transform2D}
 use Rattle.shape.specs.declared.BoxAnswer.{BoxAnswer}
 use Rattle.shape.specs.declared.BoxAnswer.the-variants.{Refused}
 use Rattle.shape.specs.Calls.{transformedCall}
-use Rattle.beamnettle.specs.Lent.{boxIn, frameIn}
+use Rattle.beamnettle.specs.Lent.{boxIn}
 use Rattle.beamnettle.specs.Calls.{boxNumber, boxAfter, transformedLent}
 use Rattle.beamnettle.proofs.Short.{kept, turned}
 use Rattle.beamnettle.proofs.beamnettle_transformed.Statement.{statement}

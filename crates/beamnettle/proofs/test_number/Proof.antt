@@ -1,8 +1,7 @@
 -- `beamnettle::test_number` meets its contract, case by case of the answer. Assumes nothing.
 use borrow.Author.Needs.{needs}
-use mathlib.Core.Path.{refl, sym, ap, _∙_}
+use mathlib.Core.Path.{sym, ap, _∙_}
 use mathlib.Core.Bool.{Bool, cond}
-use Rattle.shape.specs.declared.TestAnswer.{TestAnswer}
 use Rattle.beamnettle.specs.Calls.{testNumber}
 use Rattle.beamnettle.proofs.test_number.Statement.{statement}
 use Rattle.beamnettle.proofs.test_number.Tie as tie

@@ -3,11 +3,8 @@ use borrow.Author.Needs.{needs}
 use mathlib.Core.Path.{ap, _∙_}
 use Prim.Native.Nat.{_+_}
 use lib.ListN.{drop}
-use Rattle.words.specs.Words.{readCount}
-use Rattle.words.specs.Scan.{countedOf}
-use Rattle.words.specs.Reader.{aloneOf, isEvenOdd}
-use Rattle.words.specs.declared.Word.{Word}
-use Rattle.words.proofs.Reader.{first-count}
+use Rattle.words.specs.Reader.{isEvenOdd}
+use Rattle.words.proofs.Reader.{count-of}
 use Rattle.words.proofs.head_at.Statement.{statement}
 use Rattle.words.proofs.head_at.Tie as tie
 
@@ -25,7 +22,7 @@ returns c =
     let args = c .before .before .before .args in
     let pair-at = c .before .before .pair-at in (
       c .before .is-even-odd .ensures ∙ ap isEvenOdd (pair-at .ensures .0),
-      c .count .ensures ∙ ap (λ (t : Word). countedOf (readCount (aloneOf t))) (pair-at .ensures .1) ∙ first-count (drop (args .at + 1) (args .words .now)),
+      count-of (drop (args .at + 1) (args .words .now)) (c .count .ensures) (pair-at .ensures .1),
     )
 
 pub head-at-spec : {M : Type 1} → statement M

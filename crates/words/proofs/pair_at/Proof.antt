@@ -1,5 +1,7 @@
--- `words::pair_at` meets its contract: a walk of its statements, by hand, since the borrow checker covers no struct that holds a reference. A reader is made and asked for its next word; behind that word it is asked again.
--- A reader is Copy: what it owns is had twice, once for the word and once to move on. Of two words together no more is known than of each. Assumes nothing.
+-- `words::pair_at` meets its contract: a walk of its statements, by hand, since the borrow checker covers no struct that holds a reference. A reader
+-- is made and asked for its next word; behind that word it is asked again.
+-- A reader is Copy: what it owns is had twice, once for the word and once to move on. Of two words together no more is known than of each. Assumes
+-- nothing.
 use mathlib.Core.Path.{_≡_, refl, ap, _∙_}
 use lib.IntN.{ℤ}
 use mathlib.Core.List.{List, [], _∷_}
@@ -71,6 +73,21 @@ abbrev stayed : Stays (pair-at.ended .signature .params) (pair-at.ended .kept)
 stayed = (stay-none-slice (0 ∷ []) tt (plain (λ _. i32)) yes, (stay-none (λ _. usize) yes, tt))
 
 module _ {M : Type 1} (𝓤 : URA M) (H : Heap 𝓤) (A : Atoms 𝓤) (W : Given 𝓤 H A) (mem : Memory → SProp 𝓤) (run : Routine → Fun 𝓤) (κ : Lft) (q : Share) (s : RefT (List ℤ)) (n : ℕ) (small : n < 2 ^ 64) where
+  abbrev toNew : New 𝓤 H A mem run .Ghost
+  toNew = to-new 𝓤 H A W mem run κ q s n small
+
+  abbrev Is-made : WordReader → Type 0
+  Is-made = Made 𝓤 H A W mem run κ q s n small
+
+  abbrev toPeek : WordReader → Val → Peek 𝓤 H A mem run .Ghost
+  toPeek = to-peek 𝓤 H A W mem run κ q
+
+  abbrev toMoved : WordReader → Val → Moved 𝓤 H A mem run .Ghost
+  toMoved = to-moved 𝓤 H A W mem run κ q
+
+  abbrev Is-next : WordReader → WordReader → Type 0
+  Is-next = Next 𝓤 H A W mem run κ q
+
   abbrev Post : Val → SProp 𝓤
   Post = walkOf 𝓤 H A pair-at.ended stayed (pair-at.clauses 𝓤 H A mem run) .post (((κ, tt), (q, tt), tt, (s, (n, tt)), entering κ s n), tt)
 
@@ -95,16 +112,17 @@ module _ {M : Type 1} (𝓤 : URA M) (H : Heap 𝓤) (A : Atoms 𝓤) (W : Given
       owned ! P.the-row (Is P.the-row) (LL.makes P.the-type P′.the-plain 𝓤 H A) (both t t′) _ (both-is t t′ u u′ is is′) $ done !
 
   module _ (C : Calls 𝓤 H) (Λ : Loops 𝓤 H) (fm : FmC 𝓤 H (W .laws) C) (known-new : Triple 𝓤 (C #words·new) (New 𝓤 H A mem run)) (known-moved : Triple 𝓤 (C #words·moved) (Moved 𝓤 H A mem run)) (known-peek : Triple 𝓤 (C #words·peek) (Peek 𝓤 H A mem run)) where
-    walk : Is (ShrSlice (named 0) κ i32) s (listVal s ∷ []) → ent 𝓤 (onEntry 𝓤 H A pair-at.signature (κ, tt) (q, tt) (s, (n, tt)) (entering κ s n)) (WpFn 𝓤 H C Λ code.function (listVal s ∷ vint w64 n ∷ []) Post)
+    walk : Is (ShrSlice (named 0) κ i32) s (listVal s ∷ [])
+        → ent 𝓤 (onEntry 𝓤 H A pair-at.signature (κ, tt) (q, tt) (s, (n, tt)) (entering κ s n)) (WpFn 𝓤 H C Λ code.function (listVal s ∷ vint w64 n ∷ []) Post)
     walk p =
         qed W (raw (onEntry 𝓤 H A pair-at.signature (κ, tt) (q, tt) (s, (n, tt)) (entering κ s n)) ∷ []) ∵ enter ! C Λ code.function (listVal s ∷ vint w64 n ∷ []) _ $
         alloc1 ! (λ l₀. alloc1 ! (λ l₁. alloc1 ! (λ l₂. alloc1 ! (λ l₃. alloc1 ! (λ l₄. alloc1 ! (λ l₅. alloc1 ! (λ l₆. alloc1 ! (λ l₇. alloc1 ! (λ l₈. alloc0 ! $ params1 ! $
         pass1 ! (init ! 14 refl (shr-slice-lawful 𝓤 H A W (named 0) κ i32 .typed s (listVal s ∷ []) p .0)) $ pass1 ! (init ! 12 refl (tt, record { fits = small })) $ pass0 ! $
         -- _3 = new(words, at)
-        move ! (18 ∷ []) $ use1 W (raw (New 𝓤 H A mem run .pre (to-new 𝓤 H A W mem run κ q s n small)) ⊛ ‵ (ListOwn κ s)) (goes-new 𝓤 H A W mem run κ q s n small) $ split ! $
-        calls-at ! fm (New 𝓤 H A mem run) known-new (to-new 𝓤 H A W mem run κ q s n small) (and-then ! (load ! (from ! (stop !)) (look ! 16 refl)) (and-then ! (load ! (from ! (stop !)) (look ! 14 refl)) (no-more !))) (λ u.
+        move ! (18 ∷ []) $ use1 W (raw (New 𝓤 H A mem run .pre toNew) ⊛ ‵ (ListOwn κ s)) (goes-new 𝓤 H A W mem run κ q s n small) $ split ! $
+        calls-at ! fm (New 𝓤 H A mem run) known-new toNew (and-then ! (load ! (from ! (stop !)) (look ! 16 refl)) (and-then ! (load ! (from ! (stop !)) (look ! 14 refl)) (no-more !))) (λ u.
         use1 W (later (some (λ (r : WordReader). ((‵ (flft κ q) ⊛ ‵ ftrue) ⊛ ‵ (B (κ, tt) .own r (u ∷ []))) ⊛ raw (ensured 𝓤 H A new.ended (new.clauses 𝓤 H A mem run) (κ, tt) (s, (n, tt)) tt r)))) (id⊢ 𝓤 _) $ await ! tt $ pick ! (λ r.
-        split ! $ move ! (1 ∷ []) $ use1 W (raw (fact 𝓤 (Made 𝓤 H A W mem run κ q s n small r))) (new-said 𝓤 H A W mem run κ q s n small r) $ heard ! (Made 𝓤 H A W mem run κ q s n small r) (λ e. split ! $ move ! (1 ∷ []) $
+        split ! $ move ! (1 ∷ []) $ use1 W (raw (fact 𝓤 (Is-made r))) (new-said 𝓤 H A W mem run κ q s n small r) $ heard ! (Is-made r) (λ e. split ! $ move ! (1 ∷ []) $
         -- [what the reader owns; the token; what words owns; room for _8; …; _7; …; _6; …; _5; …; _4; …; _3; …; _2; …; _1; …; _0; …]
         peeks ! (B (κ, tt)) (Is (B (κ, tt))) (shows 𝓤 H A (B (κ, tt))) r (u ∷ []) (λ is.
         let typed = LL.lawful (T.the-type (αᵉ κ)) (T′.the-laws (αᵉ κ)) 𝓤 H A W .typed r _ is .0 in
@@ -112,8 +130,8 @@ module _ {M : Type 1} (𝓤 : URA M) (H : Heap 𝓤) (A : Atoms 𝓤) (W : Given
         -- _5 = _3; _4 = peek(_5)
         assigns ! (of-opd ! (load ! (from ! (stop !)) (look ! 13 refl))) (from ! (stop !)) (init ! 9 refl typed) $
         use1 W (‵ (B (κ, tt) .own r (u ∷ [])) ⊛ ‵ (B (κ, tt) .own r (u ∷ []))) (again 𝓤 H A W mem run κ q r u) $ split ! $ move ! (0 ∷ 2 ∷ []) $
-        use2 W (raw (Peek 𝓤 H A mem run .pre (to-peek 𝓤 H A W mem run κ q r u))) (goes-peek 𝓤 H A W mem run κ q r u) $
-        calls-at ! fm (Peek 𝓤 H A mem run) known-peek (to-peek 𝓤 H A W mem run κ q r u) (and-then ! (load ! (from ! (stop !)) (look ! 9 refl)) (no-more !)) (λ v.
+        use2 W (raw (Peek 𝓤 H A mem run .pre (toPeek r u))) (goes-peek 𝓤 H A W mem run κ q r u) $
+        calls-at ! fm (Peek 𝓤 H A mem run) known-peek (toPeek r u) (and-then ! (load ! (from ! (stop !)) (look ! 9 refl)) (no-more !)) (λ v.
         use1 W (later (some (λ (t : Word). ((‵ (flft κ q) ⊛ ‵ ftrue) ⊛ ‵ (S.the-row .own t (v ∷ []))) ⊛ raw (ensured 𝓤 H A peek.ended (peek.clauses 𝓤 H A mem run) (κ, tt) (r, tt) tt t)))) (id⊢ 𝓤 _) $ await ! tt $ pick ! (λ t.
         split ! $ move ! (1 ∷ []) $ use1 W (raw (fact 𝓤 (t ≡ wordOf (ahead r)))) (peek-said 𝓤 H A W mem run κ q r t) $ heard ! (t ≡ wordOf (ahead r)) (λ h. split ! $ move ! (1 ∷ []) $
         -- [the word; the token; what the reader owns; what words owns; room for _8; …]
@@ -121,16 +139,16 @@ module _ {M : Type 1} (𝓤 : URA M) (H : Heap 𝓤) (A : Atoms 𝓤) (W : Given
         land ! (from ! (stop !)) (init ! 11 refl (EL.lawful S.the-type S′.the-laws 𝓤 H A W tt .typed t _ ist .0)) $
         -- _8 = _3; _7 = moved(_8)
         assigns ! (of-opd ! (load ! (from ! (stop !)) (look ! 13 refl))) (from ! (stop !)) (init ! 3 refl typed) $
-        move ! (1 ∷ 0 ∷ []) $ use2 W (raw (Moved 𝓤 H A mem run .pre (to-moved 𝓤 H A W mem run κ q r u))) (goes-moved 𝓤 H A W mem run κ q r u) $
-        calls-at ! fm (Moved 𝓤 H A mem run) known-moved (to-moved 𝓤 H A W mem run κ q r u) (and-then ! (load ! (from ! (stop !)) (look ! 2 refl)) (no-more !)) (λ u′.
+        move ! (1 ∷ 0 ∷ []) $ use2 W (raw (Moved 𝓤 H A mem run .pre (toMoved r u))) (goes-moved 𝓤 H A W mem run κ q r u) $
+        calls-at ! fm (Moved 𝓤 H A mem run) known-moved (toMoved r u) (and-then ! (load ! (from ! (stop !)) (look ! 2 refl)) (no-more !)) (λ u′.
         use1 W (later (some (λ (r′ : WordReader). ((‵ (flft κ q) ⊛ ‵ ftrue) ⊛ ‵ (B (κ, tt) .own r′ (u′ ∷ []))) ⊛ raw (ensured 𝓤 H A moved.ended (moved.clauses 𝓤 H A mem run) (κ, tt) (r, tt) tt r′)))) (id⊢ 𝓤 _) $ await ! tt $ pick ! (λ r′.
-        split ! $ move ! (1 ∷ []) $ use1 W (raw (fact 𝓤 (Next 𝓤 H A W mem run κ q r r′))) (moved-said 𝓤 H A W mem run κ q r r′) $ heard ! (Next 𝓤 H A W mem run κ q r r′) (λ e′. split ! $ move ! (1 ∷ []) $
+        split ! $ move ! (1 ∷ []) $ use1 W (raw (fact 𝓤 (Is-next r r′))) (moved-said 𝓤 H A W mem run κ q r r′) $ heard ! (Is-next r r′) (λ e′. split ! $ move ! (1 ∷ []) $
         -- [what the reader owns; the token; what words owns; _8; …; room for _7; …]
         peeks ! (B (κ, tt)) (Is (B (κ, tt))) (shows 𝓤 H A (B (κ, tt))) r′ (u′ ∷ []) (λ is′.
         land ! (from ! (stop !)) (init ! 5 refl (LL.lawful (T.the-type (αᵉ κ)) (T′.the-laws (αᵉ κ)) 𝓤 H A W .typed r′ _ is′ .0)) $
         -- _6 = peek(_7)
-        use2 W (raw (Peek 𝓤 H A mem run .pre (to-peek 𝓤 H A W mem run κ q r′ u′))) (goes-peek 𝓤 H A W mem run κ q r′ u′) $
-        calls-at ! fm (Peek 𝓤 H A mem run) known-peek (to-peek 𝓤 H A W mem run κ q r′ u′) (and-then ! (load ! (from ! (stop !)) (look ! 4 refl)) (no-more !)) (λ v′.
+        use2 W (raw (Peek 𝓤 H A mem run .pre (toPeek r′ u′))) (goes-peek 𝓤 H A W mem run κ q r′ u′) $
+        calls-at ! fm (Peek 𝓤 H A mem run) known-peek (toPeek r′ u′) (and-then ! (load ! (from ! (stop !)) (look ! 4 refl)) (no-more !)) (λ v′.
         use1 W (later (some (λ (t′ : Word). ((‵ (flft κ q) ⊛ ‵ ftrue) ⊛ ‵ (S.the-row .own t′ (v′ ∷ []))) ⊛ raw (ensured 𝓤 H A peek.ended (peek.clauses 𝓤 H A mem run) (κ, tt) (r′, tt) tt t′)))) (id⊢ 𝓤 _) $ await ! tt $ pick ! (λ t′.
         split ! $ move ! (1 ∷ []) $ use1 W (raw (fact 𝓤 (t′ ≡ wordOf (ahead r′)))) (peek-said 𝓤 H A W mem run κ q r′ t′) $ heard ! (t′ ≡ wordOf (ahead r′)) (λ h′. split ! $ move ! (1 ∷ []) $
         facts ! S.the-row (Is S.the-row) (shows 𝓤 H A S.the-row) t′ (v′ ∷ []) (λ ist′.
@@ -138,13 +156,15 @@ module _ {M : Type 1} (𝓤 : URA M) (H : Heap 𝓤) (A : Atoms 𝓤) (W : Given
         land ! (from ! (stop !)) (init ! 6 refl (EL.lawful S.the-type S′.the-laws 𝓤 H A W tt .typed t′ _ ist′ .0)) $
         -- _0 = Pair { _4, _6 }
         assigns ! (agg ! (and-then ! (load ! (from ! (stop !)) (look ! 10 refl)) (and-then ! (load ! (from ! (stop !)) (look ! 6 refl)) (no-more !)))) (from ! (stop !)) (init ! 18 refl (LL.lawful P.the-type P′.the-laws 𝓤 H A W .typed (both t t′) _ (both-is t t′ v v′ ist ist′) .0)) $
-        returns ! (look ! 18 refl) $ forget ! 2 refl $ forget ! 4 refl $ forget ! 6 refl $ forget ! 8 refl $ forget ! 10 refl $ forget ! 12 refl $ forget ! 14 refl $ forget ! 16 refl $ forget ! 18 refl $
+        returns ! (look ! 18 refl) $ forget ! 2 refl $ forget ! 4 refl $ forget ! 6 refl $ forget ! 8 refl $ forget ! 10 refl $ forget ! 12 refl $ forget ! 14 refl $ forget ! 16 refl $
+        forget ! 18 refl $
         move ! (18 ∷ 19 ∷ []) $ free1 ! $ move ! (16 ∷ 17 ∷ []) $ free1 ! $ move ! (14 ∷ 15 ∷ []) $ free1 ! $ move ! (12 ∷ 13 ∷ []) $ free1 ! $ move ! (10 ∷ 11 ∷ []) $ free1 ! $
         move ! (8 ∷ 9 ∷ []) $ free1 ! $ move ! (6 ∷ 7 ∷ []) $ free1 ! $ move ! (4 ∷ 5 ∷ []) $ free1 ! $ move ! (2 ∷ 3 ∷ []) $ free1 ! $ free0 ! $
         by ! (exits t t′ v v′ ist ist′ (h ∙ ap wordOf e, h′ ∙ ap wordOf (e′ ∙ ap (drop-list 1) e ∙ drop-drop 1 n (now s)))))))))))))))))))))))))))))
 
 module _ {M : Type 1} (𝓤 : URA M) (H : Heap 𝓤) (A : Atoms 𝓤) (W : Given 𝓤 H A) (mem : Memory → SProp 𝓤) (run : Routine → Fun 𝓤) where
-  pair-at-walks : (C : Calls 𝓤 H) (Λ : Loops 𝓤 H) → FmC 𝓤 H (W .laws) C → Triple 𝓤 (C #words·new) (New 𝓤 H A mem run) → Triple 𝓤 (C #words·moved) (Moved 𝓤 H A mem run) → Triple 𝓤 (C #words·peek) (Peek 𝓤 H A mem run)
+  pair-at-walks : (C : Calls 𝓤 H) (Λ : Loops 𝓤 H) → FmC 𝓤 H (W .laws) C → Triple 𝓤 (C #words·new) (New 𝓤 H A mem run) → Triple 𝓤 (C #words·moved) (Moved 𝓤 H A mem run)
+      → Triple 𝓤 (C #words·peek) (Peek 𝓤 H A mem run)
       → Walks 𝓤 H A pair-at.ended stayed (WpFn 𝓤 H C Λ code.function) (pair-at.clauses 𝓤 H A mem run)
   pair-at-walks C Λ fm known-new known-moved known-peek = walked 𝓤 H A pair-at.ended stayed (pair-at.clauses 𝓤 H A mem run) (WpFn 𝓤 H C Λ code.function) (λ κs. (slice-vals, (uint-vals w64, tt))) (λ κs. (shr-slice-tells (named 0) (κs .0) i32, (uint-tells w64, tt)))
       (λ κs qs bounds a g are. via 𝓤 _ (fst∗ 𝓤 _ (emp 𝓤)) (walk 𝓤 H A W mem run (κs .0) (qs .0) (a .0) (a .1 .0) (are .1 .0 .1) C Λ fm known-new known-moved known-peek (are .0)))

@@ -1,13 +1,9 @@
 -- `words::point_at` meets its contract. Assumes nothing.
 use borrow.Author.Needs.{needs}
-use mathlib.Core.Path.{_≡_, sym, ap, _∙_}
+use mathlib.Core.Path.{sym, _∙_}
 use Prim.Native.Nat.{_+_}
 use lib.ListN.{drop}
-use Rattle.words.specs.Words.{readCoordinate}
-use Rattle.words.specs.Scan.{checkedOf}
-use Rattle.words.specs.Reader.{aloneOf}
-use Rattle.words.specs.declared.Word.{Word}
-use Rattle.words.proofs.Reader.{first-coordinate}
+use Rattle.words.proofs.Reader.{coordinate-of}
 use Rattle.words.proofs.Steps.{point-first, point-second}
 use Rattle.words.proofs.point_at.Statement.{statement}
 use Rattle.words.proofs.point_at.Tie as tie
@@ -30,15 +26,15 @@ coordinate-requires-2 c κs = search needs
 returns : tie.Need-returns
 returns c =
     let args = c .before .before .before .before .before .args in
-    let x = c .before .before .before .coordinate .ensures ∙ ap (λ (t : Word). checkedOf (readCoordinate (aloneOf t))) (c .before .before .before .before .pair-at .ensures .0) ∙ first-coordinate (drop (args .at) (args .words .now)) in
+    let x = coordinate-of (drop (args .at) (args .words .now)) (c .before .before .before .coordinate .ensures) (c .before .before .before .before .pair-at .ensures .0) in
     point-first (args .words .now) (args .at) (c .before .f .given .0 .0) (sym (c .before .f .given .1) ∙ x)
 
 returns-2 : tie.Need-returns-2
 returns-2 c =
     let args = c .before .before .before .before .before .args in
     let pair-at = c .before .before .before .before .pair-at in
-    let x = c .before .before .before .coordinate .ensures ∙ ap (λ (t : Word). checkedOf (readCoordinate (aloneOf t))) (pair-at .ensures .0) ∙ first-coordinate (drop (args .at) (args .words .now)) in
-    let y = c .coordinate2 .ensures ∙ ap (λ (t : Word). checkedOf (readCoordinate (aloneOf t))) (pair-at .ensures .1) ∙ first-coordinate (drop (args .at + 1) (args .words .now)) in
+    let x = coordinate-of (drop (args .at) (args .words .now)) (c .before .before .before .coordinate .ensures) (pair-at .ensures .0) in
+    let y = coordinate-of (drop (args .at + 1) (args .words .now)) (c .coordinate2 .ensures) (pair-at .ensures .1) in
     y ∙ point-second (args .words .now) (args .at) (sym x ∙ c .before .enum-told .given .1)
 
 pub point-at-spec : {M : Type 1} → statement M

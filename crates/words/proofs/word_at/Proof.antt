@@ -1,5 +1,7 @@
--- `words::word_at` meets its contract: a walk of its statements, by hand, since the borrow checker covers no struct that holds a reference. A reader is made and asked for its next word. All that the proof knows of the two is that each meets its contract.
--- The machine value that a call returns is stored and passed on as it is. In a local the lifetime of the reader's type is erased, so the value is shown to have the type at `erased`: what a reader owns does not say the lifetime's name. Assumes nothing.
+-- `words::word_at` meets its contract: a walk of its statements, by hand, since the borrow checker covers no struct that holds a reference. A reader
+-- is made and asked for its next word. All that the proof knows of the two is that each meets its contract.
+-- The machine value that a call returns is stored and passed on as it is. In a local the lifetime of the reader's type is erased, so the value is
+-- shown to have the type at `erased`: what a reader owns does not say the lifetime's name. Assumes nothing.
 use mathlib.Core.Path.{_≡_, refl, ap, _∙_}
 use lib.IntN.{ℤ}
 use mathlib.Core.List.{List, [], _∷_}
@@ -62,6 +64,15 @@ abbrev stayed : Stays (word-at.ended .signature .params) (word-at.ended .kept)
 stayed = (stay-none-slice (0 ∷ []) tt (plain (λ _. i32)) yes, (stay-none (λ _. usize) yes, tt))
 
 module _ {M : Type 1} (𝓤 : URA M) (H : Heap 𝓤) (A : Atoms 𝓤) (W : Given 𝓤 H A) (mem : Memory → SProp 𝓤) (run : Routine → Fun 𝓤) (κ : Lft) (q : Share) (s : RefT (List ℤ)) (n : ℕ) (small : n < 2 ^ 64) where
+  abbrev toNew : New 𝓤 H A mem run .Ghost
+  toNew = to-new 𝓤 H A W mem run κ q s n small
+
+  abbrev Is-made : WordReader → Type 0
+  Is-made = Made 𝓤 H A W mem run κ q s n small
+
+  abbrev toPeek : WordReader → Val → Peek 𝓤 H A mem run .Ghost
+  toPeek = to-peek 𝓤 H A W mem run κ q
+
   abbrev Post : Val → SProp 𝓤
   Post = walkOf 𝓤 H A word-at.ended stayed (word-at.clauses 𝓤 H A mem run) .post (((κ, tt), (q, tt), tt, (s, (n, tt)), entering κ s n), tt)
 
@@ -72,21 +83,23 @@ module _ {M : Type 1} (𝓤 : URA M) (H : Heap 𝓤) (A : Atoms 𝓤) (W : Given
       move ! (1 ∷ []) $ frame ! $ nothing ! $ owned ! usize (Is usize) (uint-makes 𝓤 H A W w64) n _ (refl, small) $ fjoin ! $ move ! (2 ∷ 0 ∷ []) $ fjoin ! $ frame ! $ done !
 
   module _ (C : Calls 𝓤 H) (Λ : Loops 𝓤 H) (fm : FmC 𝓤 H (W .laws) C) (known-new : Triple 𝓤 (C #words·new) (New 𝓤 H A mem run)) (known-peek : Triple 𝓤 (C #words·peek) (Peek 𝓤 H A mem run)) where
-    walk : Is (ShrSlice (named 0) κ i32) s (listVal s ∷ []) → ent 𝓤 (onEntry 𝓤 H A word-at.signature (κ, tt) (q, tt) (s, (n, tt)) (entering κ s n)) (WpFn 𝓤 H C Λ code.function (listVal s ∷ vint w64 n ∷ []) Post)
+    walk : Is (ShrSlice (named 0) κ i32) s (listVal s ∷ [])
+        → ent 𝓤 (onEntry 𝓤 H A word-at.signature (κ, tt) (q, tt) (s, (n, tt)) (entering κ s n)) (WpFn 𝓤 H C Λ code.function (listVal s ∷ vint w64 n ∷ []) Post)
     walk p =
         qed W (raw (onEntry 𝓤 H A word-at.signature (κ, tt) (q, tt) (s, (n, tt)) (entering κ s n)) ∷ []) ∵ enter ! C Λ code.function (listVal s ∷ vint w64 n ∷ []) _ $
-        alloc1 ! (λ l₀. alloc1 ! (λ l₁. alloc1 ! (λ l₂. alloc1 ! (λ l₃. alloc0 ! $ params1 ! $ pass1 ! (init ! 4 refl (shr-slice-lawful 𝓤 H A W (named 0) κ i32 .typed s (listVal s ∷ []) p .0)) $ pass1 ! (init ! 2 refl (tt, record { fits = small })) $ pass0 ! $
+        alloc1 ! (λ l₀. alloc1 ! (λ l₁. alloc1 ! (λ l₂. alloc1 ! (λ l₃. alloc0 ! $ params1 ! $
+        pass1 ! (init ! 4 refl (shr-slice-lawful 𝓤 H A W (named 0) κ i32 .typed s (listVal s ∷ []) p .0)) $ pass1 ! (init ! 2 refl (tt, record { fits = small })) $ pass0 ! $
         -- _3 = new(words, at)
-        move ! (8 ∷ []) $ use1 W (raw (New 𝓤 H A mem run .pre (to-new 𝓤 H A W mem run κ q s n small)) ⊛ ‵ (ListOwn κ s)) (goes-new 𝓤 H A W mem run κ q s n small) $ split ! $
-        calls-at ! fm (New 𝓤 H A mem run) known-new (to-new 𝓤 H A W mem run κ q s n small) (and-then ! (load ! (from ! (stop !)) (look ! 6 refl)) (and-then ! (load ! (from ! (stop !)) (look ! 4 refl)) (no-more !))) (λ u.
+        move ! (8 ∷ []) $ use1 W (raw (New 𝓤 H A mem run .pre toNew) ⊛ ‵ (ListOwn κ s)) (goes-new 𝓤 H A W mem run κ q s n small) $ split ! $
+        calls-at ! fm (New 𝓤 H A mem run) known-new toNew (and-then ! (load ! (from ! (stop !)) (look ! 6 refl)) (and-then ! (load ! (from ! (stop !)) (look ! 4 refl)) (no-more !))) (λ u.
         use1 W (later (some (λ (r : WordReader). ((‵ (flft κ q) ⊛ ‵ ftrue) ⊛ ‵ (B (κ, tt) .own r (u ∷ []))) ⊛ raw (ensured 𝓤 H A new.ended (new.clauses 𝓤 H A mem run) (κ, tt) (s, (n, tt)) tt r)))) (id⊢ 𝓤 _) $ await ! tt $ pick ! (λ r.
-        split ! $ move ! (1 ∷ []) $ use1 W (raw (fact 𝓤 (Made 𝓤 H A W mem run κ q s n small r))) (new-said 𝓤 H A W mem run κ q s n small r) $ heard ! (Made 𝓤 H A W mem run κ q s n small r) (λ e. split ! $ move ! (1 ∷ []) $
+        split ! $ move ! (1 ∷ []) $ use1 W (raw (fact 𝓤 (Is-made r))) (new-said 𝓤 H A W mem run κ q s n small r) $ heard ! (Is-made r) (λ e. split ! $ move ! (1 ∷ []) $
         -- [what the reader owns; the token; what words owns; room for _3; …; _2; …; _1; …; room for _0; …]
         peeks ! (B (κ, tt)) (Is (B (κ, tt))) (shows 𝓤 H A (B (κ, tt))) r (u ∷ []) (λ is.
         land ! (from ! (stop !)) (init ! 3 refl (LL.lawful (T.the-type (αᵉ κ)) (T′.the-laws (αᵉ κ)) 𝓤 H A W .typed r _ is .0)) $
         -- _0 = peek(_3)
-        use2 W (raw (Peek 𝓤 H A mem run .pre (to-peek 𝓤 H A W mem run κ q r u))) (goes-peek 𝓤 H A W mem run κ q r u) $
-        calls-at ! fm (Peek 𝓤 H A mem run) known-peek (to-peek 𝓤 H A W mem run κ q r u) (and-then ! (load ! (from ! (stop !)) (look ! 2 refl)) (no-more !)) (λ u′.
+        use2 W (raw (Peek 𝓤 H A mem run .pre (toPeek r u))) (goes-peek 𝓤 H A W mem run κ q r u) $
+        calls-at ! fm (Peek 𝓤 H A mem run) known-peek (toPeek r u) (and-then ! (load ! (from ! (stop !)) (look ! 2 refl)) (no-more !)) (λ u′.
         use1 W (later (some (λ (t : Word). ((‵ (flft κ q) ⊛ ‵ ftrue) ⊛ ‵ (S.the-row .own t (u′ ∷ []))) ⊛ raw (ensured 𝓤 H A peek.ended (peek.clauses 𝓤 H A mem run) (κ, tt) (r, tt) tt t)))) (id⊢ 𝓤 _) $ await ! tt $ pick ! (λ t.
         split ! $ move ! (1 ∷ []) $ use1 W (raw (fact 𝓤 (t ≡ wordOf (ahead r)))) (peek-said 𝓤 H A W mem run κ q r t) $ heard ! (t ≡ wordOf (ahead r)) (λ e′. split ! $ move ! (1 ∷ []) $
         -- [the result; the token; what words owns; _3; …; _2; …; _1; …; room for _0; …]

@@ -1,5 +1,7 @@
--- `words::WordReader::peek` meets its contract: a walk of its statements, by hand, since the borrow checker covers no struct that holds a reference. The reader is taken apart, and `value_at` is called on its list and its place.
--- A reader is Copy: it is kept whole for the exit, and what its list owns goes to the callee, beside the lifetime's token, which comes back. Assumes nothing.
+-- `words::WordReader::peek` meets its contract: a walk of its statements, by hand, since the borrow checker covers no struct that holds a reference.
+-- The reader is taken apart, and `value_at` is called on its list and its place.
+-- A reader is Copy: it is kept whole for the exit, and what its list owns goes to the callee, beside the lifetime's token, which comes back. Assumes
+-- nothing.
 use mathlib.Core.Path.{_≡_, refl}
 use Prim.Native.Nat.{_<_, _^_}
 use mathlib.Core.List.{[], _∷_}
