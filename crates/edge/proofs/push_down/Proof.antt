@@ -13,7 +13,7 @@ returns : tie.Need-returns
 returns c =
     let args = c .before .before .args in
     let none = ⊎-elim (λ above. sloped-above (args .height) (args .xa) (args .ya) (args .xb) (args .yb) (args .down) (above .taken))
-        (λ below. sloped-below (args .height) (args .xa) (args .ya) (args .xb) (args .yb) (args .down) (below .0 .left) (ap (λ (x : Float). le x (args .ya)) (sym (below .1 .ensures)) ∙ below .2 .taken)) (c .if1 .came) in
+    (λ below. sloped-below (args .height) (args .xa) (args .ya) (args .xb) (args .yb) (args .down) (below .0 .left) (ap (λ (x : Float). le x (args .ya)) (sym (below .1 .ensures)) ∙ below .2 .taken)) (c .if1 .came) in
     subst (Pushed (args .floats .now) (args .floats .now) (args .edges) (args .count) (args .count) 1) none (pushed-none (args .floats .now) (args .edges) (args .count) 1)
 
 from-whole-requires : tie.Need-from-whole-requires

@@ -86,8 +86,10 @@ returns-5 c =
     let other-small : tooLarge (args .other-size) ≡ false = sym (c .before .before .before .before .before .before .before .before .before .is-too-large2 .ensures) ∙ c .before .before .before .before .before .before .before .before .if2 .left in
     let e = laid-done (args .size) (args .other-size) (length (args .mask .now)) (length (args .other .now)) small other-small (omega arith) (omega arith) in (
       e,
-      (ap (λ (l : List ℕ). l ++ drop (cellsOf (args .size)) (args .mask .now)) (c .before .before .lay .ensures ∙ laying-front (args .size) (args .mask .now) (args .other-size) (args .other .now) (args .offset)),
-      lay-number (args .size) (args .other-size) (length (args .mask .now)) (length (args .other .now)) e),
+      (
+        ap (λ (l : List ℕ). l ++ drop (cellsOf (args .size)) (args .mask .now)) (c .before .before .lay .ensures ∙ laying-front (args .size) (args .mask .now) (args .other-size) (args .other .now) (args .offset)),
+        lay-number (args .size) (args .other-size) (length (args .mask .now)) (length (args .other .now)) e,
+      ),
     )
 
 pub intersect-spec : {M : Type 1} → statement M
