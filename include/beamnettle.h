@@ -1,7 +1,9 @@
-/* Beamnettle: the kiosk's clip masks and boxes. For x86-64 Linux; link with libbeamnettle.a and -lm.
+/* Beamnettle: the kiosk's clip masks and boxes. For x86-64 Linux, C11 or C++11; link with libbeamnettle.a
+ * and -lm.
  *
  * Every function is proved to return the number and to leave in lent memory exactly what its contract
- * in crates/beamnettle/src/lib.rt says, whatever the numbers are.
+ * in crates/beamnettle/src/lib.rt says, whatever the numbers are. The place that a touch names is the one
+ * thing that its contract leaves free.
  *
  * Lent memory. Lengths count elements, not bytes. A lent pointer must be valid for its length and
  * aligned; where the length is 0 it may be anything, NULL too. What is written must not overlap anything
@@ -13,7 +15,8 @@
  * all lent memory is left as it was.
  *
  * Floats. Calls run with the processor's default settings: rounding to nearest, subnormal numbers kept
- * (no flush to zero, no denormals are zero). Where these are changed, nothing is promised of an answer.
+ * (no flush to zero, no denormals are zero), no floating-point exception trapped. Where these are changed,
+ * nothing is promised of an answer.
  * A done answer may hold NaN or infinities, and numbers of a size over 2^20: the next call that is lent
  * them as a box or a frame refuses them with 1.
  *
@@ -21,6 +24,11 @@
  * reaches from minus its half extents to its half extents along the axes, with elliptical corners of its
  * radii (0: square); its frame takes it to where it lies. A fringe is a width there, such as that of a
  * pixel: over it an edge fades. Distances are in fringe widths, below 0 inside.
+ *
+ * Small frames. Coverage and touch take the box's frame back, parallel and the intersections the first
+ * box's. Where its determinant a * d - b * c lies between -0.000001 and 0.000001, the identity is taken for
+ * what takes it back, as femtovg does, and nothing is refused: a box drawn to less than a thousandth of its
+ * size gets an answer about another box.
  */
 #ifndef BEAMNETTLE_H
 #define BEAMNETTLE_H
@@ -78,7 +86,9 @@ _Static_assert(sizeof(struct beamnettle_box) == 10 * sizeof(float), "a box is te
 
 /* Draws a word list into the first width * height bytes of a mask, rows first; later bytes are not
  * changed. A group is a rule word (0 non-zero, else even-odd), a count of contours, then per contour a
- * count of points and that many pairs of coordinates in 256ths of a cell. Scratch is at least
+ * count of points and that many pairs of coordinates in 256ths of a cell; a contour closes from its last
+ * point to its first. What the cells held is forgotten; the groups' bytes add up, stopping at 255, and an
+ * empty list gives zeros. Scratch is at least
  * width + 15 * points floats and (width + 63) / 64 + height + 1 counters; it may hold anything before
  * and is all zero after a done drawing.
  * Returns 0, or 3, then 4 for the mask, then 5, 6 or 7 at the first word at fault, then 4 for scratch. */
@@ -107,26 +117,28 @@ uint8_t beamnettle_transformed(const float *box, size_t box_length, const float 
                                float *out, size_t out_length);
 
 /* What two boxes share, where that is a box within half a fringe width. Writes a box to out.
- * Returns 0; 32 where their sides are not parallel, where they share nothing, or where a corner is round,
- * neither is a rectangle around the other, and the overlap is no box or one of the two has no coverage;
- * or 1 or 2 for the first box, for the second, then 1 for the fringe. */
+ * Returns 0; 32 where their sides are not parallel, where they share nothing or an edge alone, or where a
+ * corner is round, neither is a rectangle around the other, and the overlap is no box or one of the two has
+ * no coverage; or 1 or 2 for the first box, for the second, then 1 for the fringe. */
 uint8_t beamnettle_intersection(const float *one, size_t one_length, const float *two, size_t two_length,
                                 float fringe, float *out, size_t out_length);
 
-/* What two rectangles share; where they are apart, a box of no width or height between them. Writes a box
- * to out. Returns 0; 32 where a corner is round or their sides are not parallel; or 1 or 2 for the first
- * box, then for the second. */
+/* What two rectangles share; where they are apart, a box of no width or no height, which lies at the greater
+ * of the two lower sides, along the first box's axes. Writes a box to out. Returns 0; 32 where a corner is
+ * round or their sides are not parallel; or 1 or 2 for the first box, then for the second. */
 uint8_t beamnettle_rect_intersection(const float *one, size_t one_length, const float *two, size_t two_length,
                                      float *out, size_t out_length);
 
 /* The box as a draw takes it: the map from a point to the box's own axes, scaled to fringe widths, and the
- * box in those. Where a radius is below half a fringe width, both become 0. Writes a coverage to out.
- * Returns 0; 32 where the frame all but collapses (its axes all but parallel, or all but without length),
- * where the fringe is 0 or below, or where a half extent is below half a fringe width; or 1 or 2 for the
- * box, then 1 for the fringe. */
+ * box in those. Where a radius, as it lies there, is below half a fringe width, both become 0. Writes a
+ * coverage to out.
+ * Returns 0; 32 where the frame all but collapses (the sine between its axes is at most 0.01, or they are so
+ * short, about 1e-11, that their squares vanish), where the fringe is 0 or below, or where two sides, as they
+ * lie there, are less than a fringe width apart; or 1 or 2 for the box, then 1 for the fringe. */
 uint8_t beamnettle_coverage(const float *box, size_t box_length, float fringe, float *out, size_t out_length);
 
-/* The bounds of a box. Writes four floats to out. Returns 0, or 1 or 2. */
+/* The bounds of a box's four corners, taken as square, where they lie. Writes four floats to out. Returns 0,
+ * or 1 or 2. */
 uint8_t beamnettle_bounds(const float *box, size_t box_length, float *out, size_t out_length);
 
 /* The distance of a point from a coverage's outline, in fringe widths, below 0 inside. The coverage may hold

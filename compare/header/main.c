@@ -198,6 +198,13 @@ static void covering(void) {
     WRITES(beamnettle_coverage(tight, BOX, 1, out, COVERAGE), 1, -0.0f, -0.0f, 1, 0, 0, 4, 5, 0, 0, 0);
     RETURNS(BEAMNETTLE_NONE, beamnettle_coverage(thin, BOX, 1, out, COVERAGE));
     RETURNS(BEAMNETTLE_NONE, beamnettle_coverage(TURNED, BOX, 0, out, COVERAGE));
+    /* thin by how its sides lie: 0.3 at a scale of 2 is 0.6, 0.9 at a scale of a half is 0.45 */
+    const float doubled[] = {2, 0, 0, 2, 0, 0, 0.3f, 5, 0, 0}, halved[] = {0.5f, 0, 0, 0.5f, 0, 0, 0.9f, 5, 0, 0};
+    CHECK(beamnettle_coverage(doubled, BOX, 1, out, COVERAGE) == BEAMNETTLE_DONE);
+    RETURNS(BEAMNETTLE_NONE, beamnettle_coverage(halved, BOX, 1, out, COVERAGE));
+    /* a small frame is taken back as the identity */
+    const float small[] = {0.0005f, 0, 0, 0.0005f, 100, 50, 4000, 3000, 0, 0};
+    WRITES(beamnettle_coverage(small, BOX, 1, out, COVERAGE), 1, 0, 0, 1, 0, 0, 4000, 3000, 0, 0, 0);
     RETURNS(BEAMNETTLE_BUFFER_TOO_SHORT, beamnettle_coverage(TURNED, BOX - 1, 1, out, COVERAGE));
     RETURNS(BEAMNETTLE_BUFFER_TOO_SHORT, beamnettle_coverage(TURNED, BOX, 1, out, COVERAGE - 1));
     RETURNS(BEAMNETTLE_IMPROPER_BOX, beamnettle_coverage(IMPROPER, BOX, INFINITY, out, COVERAGE));
