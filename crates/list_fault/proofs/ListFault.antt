@@ -9,7 +9,7 @@ use Rattle.fault.specs.declared.Fault.{Fault}
 use Rattle.fault.specs.declared.Fault.the-variants.{ListEndsEarly, CountOutOfRange, CoordinateOutOfRange}
 use Rattle.words.specs.Words.{Group, Read, ok, fault, andThen, readCount, beyond, readCoordinate, readPoint, readPoints, readContour, readContours, readGroup, readGroups, readWords}
 use Rattle.words.proofs.RoundTrip.{reads-what-is-written}
-use Rattle.list_fault.specs.ListFault.{Writing, Begins, WrongWord, MinusOneBegins, FaultOf, ends-early, at-count, at-coordinate, ListFault, Shortest}
+use Rattle.list_fault.specs.ListFault.{Writing, Begins, WrongWord, MinusOneBegins, FaultOf, ends-early, at-count, at-coordinate, ListFault, OneOfEach}
 use Rattle.list_fault.proofs.Machine.{State, atRule, atContourCount, atPointCount, atX, atY, wrong, step, run, run-append, stays, verdict, refused, Going, Takes, takes, Where, where-step, where-run, finish, finishes}
 use Rattle.list_fault.proofs.Agrees.{ran, ok-ran, fault-ran, ran-fault}
 
@@ -189,6 +189,6 @@ list-fault = record {
   always = always;
 }
 
-pub shortest : Shortest
+pub one-of-each : OneOfEach
 unfolding readWords readGroups readGroup readContours readContour readPoints readPoint readCoordinate readCount andThen beyond
-shortest = (refl, refl, refl)
+one-of-each = (refl, refl, refl)

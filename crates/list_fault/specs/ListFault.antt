@@ -50,9 +50,9 @@ pub record ListFault : Type 0 where
   pub only : (ws : List ℤ) (f : Fault) → readWords ws ≡ fault f → FaultOf ws f
   pub always : (ws : List ℤ) (f : Fault) → FaultOf ws f → readWords ws ≡ fault f
 
--- a shortest list of each
-abbrev pub Shortest : Type 0
-Shortest =
+-- a list with each fault
+abbrev pub OneOfEach : Type 0
+OneOfEach =
     (readWords (pos 0 ∷ []) ≡ fault ListEndsEarly)
     × (readWords (pos 0 ∷ negsuc 0 ∷ []) ≡ fault CountOutOfRange)
     × (readWords (pos 0 ∷ pos 1 ∷ pos 1 ∷ pos 1048577 ∷ []) ≡ fault CoordinateOutOfRange)

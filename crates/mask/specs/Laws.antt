@@ -71,9 +71,9 @@ abbrev pub CanLay : Size → Size → ℕ → ℕ → Type 0
 CanLay size otherSize mask other = SizeAllowed size × SizeAllowed otherSize × (cellsOf size ≤ mask) × (cellsOf otherSize ≤ other)
 
 -- why it is refused, in document 01's order: 'Laying on: 3, 4.'
-abbrev pub FirstLayCause : Size → Size → ℕ → ℕ → Fault → Type 0
-FirstLayCause size otherSize mask other f =
-    ((TooLarge size ⊎ TooLarge otherSize) × (f ≡ MaskTooLarge)) ⊎ (SizeAllowed size × SizeAllowed otherSize × ((mask < cellsOf size) ⊎ (other < cellsOf otherSize)) × (f ≡ BufferTooShort))
+pub data FirstLayCause (size otherSize : Size) (mask other : ℕ) : Fault → Type 0 where
+  either-too-large : TooLarge size ⊎ TooLarge otherSize → FirstLayCause size otherSize mask other MaskTooLarge
+  either-short : SizeAllowed size → SizeAllowed otherSize → (mask < cellsOf size) ⊎ (other < cellsOf otherSize) → FirstLayCause size otherSize mask other BufferTooShort
 
 pub record LaidExactlyWhen : Type 0 where
   pub done-only : (size otherSize : Size) (mask other : ℕ) → layAnswer size otherSize mask other ≡ Done → CanLay size otherSize mask other

@@ -15,7 +15,8 @@ pub record Columns (x : Float) : Type 0 where
   pub floor-column : columnOf (floorOf x) ≡ columnOf x
   pub ceil-column : columnOf (ceilOf x) ≡ ceilColumn x
 
--- This holds of every number from 0 on, other than -0, whose column is below 8,191, so of every number that lies within a row
+-- This holds of every number from 0 on, other than -0, whose column is below 8,191, so of every number within a row but -0. (The floor of -0 is -0. A row takes two differences with a
+-- floor: 1 − (lo − floor), which is 1 for both zeros, and the middle, which is over 0 there, less the floor)
 abbrev pub ColumnsAre : Type 0
 ColumnsAre = (x : Float) → le f0 x ≡ true → ((e : ℤ) → x ≡ fin true 0 e → ⊥) → columnOf x < 8191 → Columns x
 

@@ -1,6 +1,6 @@
 -- One row of cells and what an edge's piece adds to it: `Row` of coverage.rs, let by let, over IEEE 754's binary32. Definitions only.
--- For a number from 0 to the width the Rust's `lo.floor() as usize` is `columnOf lo`, its `lo.floor()` is that column as a float, and `hi.ceil() as usize`
--- is `ceilColumn hi` (`ColumnsAre` in Laws.antt).
+-- For a number from 0 to the width, -0 apart, the Rust's `lo.floor() as usize` is `columnOf lo`, its `lo.floor()` is that column as a float, and
+-- `hi.ceil() as usize` is `ceilColumn hi` (`ColumnsAre` in Laws.antt, which says what is with -0).
 use Prim.Native.Nat.{ℕ, zero, suc, _+_, _-_}
 use mathlib.Core.Bool.{cond}
 use mathlib.Core.List.{List}

@@ -9,7 +9,7 @@ use native.Mathlib.Omega.{arith}
 use lib.ListN.{length}
 use Rattle.fraction.specs.Fraction.{Fraction, _≤ᶠ_, _<ᶠ_, _≈ᶠ_, natᶠ, _/2^_, _+ᶠ_, _-ᶠ_, _*ᶠ_, negᶠ, clampᶠ, Within}
 use Rattle.fraction.proofs.Linear.{at-le, at-eq, le-at, eq-at, add-at, sub-at, neg-at, scale-at, over, lit}
-use Rattle.fraction.proofs.Order.{above-not, add-mul, mul-neg, antisym, cancel, le-or-lt, lt-not, mul-cong, of-lt, refl≈, sub-nonneg, sym≈, trans≈}
+use Rattle.fraction.proofs.Order.{above-not, add-mul, mul-neg, antisym, cancel, le-or-lt, lt-not, mul-cong, of-lt, refl≈, sub-nonneg, sym≈, trans≈, mul-mono, mul-nonneg}
 use Rattle.fraction.proofs.Ring.{rep, reps, ring, cong-add}
 use Rattle.fraction.proofs.Near.{within-mul, within-self, within-weaken}
 use Rattle.fraction.proofs.Clamp.{min-le-right, min-at}
@@ -18,7 +18,7 @@ use Rattle.winding.specs.Winding.{ExactPoint, ExactEdge, exactEdges, H, 
 use Rattle.winding.specs.Drawn.{sumOfShares, drawnShare, crossings, allowedDifference}
 use Rattle.winding.specs.Beliefs.{IntegralBeliefs, CrossingBeliefs, ShareBeliefs, allEdges, AllowedIs}
 use Rattle.winding.proofs.MeanOf.{mean}
-use Rattle.winding.proofs.Mean.{mean-area, mean-cong, mean-level}
+use Rattle.winding.proofs.Mean.{mean-area, mean-between, mean-cong, mean-level, mean-sym}
 use Rattle.winding.proofs.Cells.{G-range}
 use Rattle.winding.proofs.Part.{integral-is, top, bottom, down-is, down-none, part-down, part-up, part-level, height-le, slope-of, crossing-start, crossing-end, crossing-step}
 use Rattle.winding.proofs.Crosses.{crosses-yes, crosses-do, no-part}
@@ -85,6 +85,41 @@ edge-additive a b c p m q =
 integral-level : (p q u v : Fraction) → u ≈ᶠ v → integral p q u v ≈ᶠ (q -ᶠ p) *ᶠ clampᶠ u
 integral-level p q u v e = rw (integral-is p q u v) (mul-cong (q -ᶠ p) (mean-level u v e))
 
+-- ---- between the held ends, whichever comes first
+integral-between : (p q u v : Fraction) → p ≤ᶠ q → u ≤ᶠ v → ((q -ᶠ p) *ᶠ clampᶠ u ≤ᶠ integral p q u v) × (integral p q u v ≤ᶠ (q -ᶠ p) *ᶠ clampᶠ v)
+integral-between p q u v h k =
+    let b = mean-between u v k in
+    rw (integral-is p q u v) (mul-mono (sub-nonneg h) (b .0), mul-mono (sub-nonneg h) (b .1))
+
+integral-either-way : (p q u v : Fraction) → integral p q u v ≈ᶠ integral p q v u
+integral-either-way p q u v = rw (integral-is p q u v, integral-is p q v u) (mul-cong (q -ᶠ p) (mean-sym u v))
+
+-- ---- the sign of a part
+down-nonneg : (a b : ExactPoint) (c row : ℕ) → natᶠ 0 ≤ᶠ downPart a b c row
+down-nonneg a b c row = go (le-or-lt (bottom b row) (top a row))
+  where
+    go : (bottom b row ≤ᶠ top a row) ⊎ (top a row <ᶠ bottom b row) → natᶠ 0 ≤ᶠ downPart a b c row
+    go (inl h) = rw (down-none a b c row h) (lit tt)
+    go (inr h) = rw (down-is a b c row h) (mul-nonneg (sub-nonneg (of-lt h)) (G-range c (crossing a b (top a row)) (crossing a b (bottom b row)) .0))
+
+part-downwards : (e : ExactEdge) (c row : ℕ) → e .«from» .y <ᶠ e .to .y → natᶠ 0 ≤ᶠ exactPart e c row
+part-downwards e c row h = rw (part-down (e .«from») (e .to) c row h) (down-nonneg (e .«from») (e .to) c row)
+
+part-turned : (e : ExactEdge) (c row : ℕ) → exactPart (record { «from» = e .to; to = e .«from» }) c row ≈ᶠ negᶠ (exactPart e c row)
+part-turned e c row = go (le-or-lt (e .«from» .y) (e .to .y)) (le-or-lt (e .to .y) (e .«from» .y))
+  where
+    twice : (x : Fraction) → x ≈ᶠ negᶠ (negᶠ x)
+    twice x = over (x ∷ []) (λ N n X. eq-at N X (neg-at N (neg-at N X)) n (omega arith))
+
+    none : natᶠ 0 ≈ᶠ negᶠ (natᶠ 0)
+    none = over (natᶠ 0 ∷ []) (λ N n O. eq-at N O (neg-at N O) n (omega (arith, O .is)))
+
+    go : (e .«from» .y ≤ᶠ e .to .y) ⊎ (e .to .y <ᶠ e .«from» .y) → (e .to .y ≤ᶠ e .«from» .y) ⊎ (e .«from» .y <ᶠ e .to .y)
+        → exactPart (record { «from» = e .to; to = e .«from» }) c row ≈ᶠ negᶠ (exactPart e c row)
+    go (inl h) (inl k) = rw (part-level (e .«from») (e .to) c row (antisym h k), part-level (e .to) (e .«from») c row (antisym k h)) none
+    go (inl h) (inr k) = rw (part-down (e .«from») (e .to) c row k, part-up (e .to) (e .«from») c row k) (refl≈ (negᶠ (downPart (e .«from») (e .to) c row)))
+    go (inr h) k = rw (part-up (e .«from») (e .to) c row h, part-down (e .to) (e .«from») c row h) (twice (downPart (e .to) (e .«from») c row))
+
 -- ---- a part is at most 1 in size
 down-within : (a b : ExactPoint) (c row : ℕ) → Within (downPart a b c row) (natᶠ 1)
 down-within a b c row = go (le-or-lt (bottom b row) (top a row))
@@ -134,7 +169,11 @@ integral-beliefs = record {
   crossing-end = crossing-end;
   additive = integral-additive;
   edge-additive = edge-additive;
+  between = integral-between;
+  either-way = integral-either-way;
   level = integral-level;
+  downwards = part-downwards;
+  turned = part-turned;
   part-at-most-one = part-at-most-one;
 }
 

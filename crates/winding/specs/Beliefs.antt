@@ -5,12 +5,13 @@ use mathlib.Core.Bool.{not}
 use Prim.Native.Nat.{ℕ, suc, _*_}
 use lib.Dec.{T}
 use lib.ListN.{length}
-use Rattle.fraction.specs.Fraction.{Fraction, _≤ᶠ_, _<ᶠ_, _≈ᶠ_, natᶠ, _/2^_, _+ᶠ_, _-ᶠ_, _*ᶠ_, absᶠ, minᶠ, maxᶠ, clampᶠ, Near, Within}
+use Rattle.fraction.specs.Fraction.{Fraction, _≤ᶠ_, _<ᶠ_, _≈ᶠ_, natᶠ, _/2^_, _+ᶠ_, _-ᶠ_, _*ᶠ_, negᶠ, absᶠ, minᶠ, maxᶠ, clampᶠ, Near, Within}
 use Rattle.words.specs.Words.{Group}
 use Rattle.winding.specs.Winding.{ExactPoint, ExactEdge, exactEdges, crossing, integral, exactPart, crosses, nonZeroShare, evenOddShare}
 use Rattle.winding.specs.Drawn.{drawnShare, crossings, allowedDifference}
 
--- The integral is one: it adds up over heights, and where the held number stays the same it is the height times it
+-- The integral is one. It adds up over heights, and lies between the height times the least and the height times the greatest held number: cut into ever smaller heights, that leaves
+-- one value alone
 pub record IntegralBeliefs : Type 0 where
   -- 'x(y) is its exact crossing': at an end's height it is that end's x
   pub crossing-start : (a b : ExactPoint) → crossing a b (a .y) ≈ᶠ a .x
@@ -21,9 +22,16 @@ pub record IntegralBeliefs : Type 0 where
   pub edge-additive : (a b : ExactPoint) (column : ℕ) (p m q : Fraction)
       → integral p m (natᶠ (suc column) -ᶠ crossing a b p) (natᶠ (suc column) -ᶠ crossing a b m) +ᶠ integral m q (natᶠ (suc column) -ᶠ crossing a b m) (natᶠ (suc column) -ᶠ crossing a b q)
       ≈ᶠ integral p q (natᶠ (suc column) -ᶠ crossing a b p) (natᶠ (suc column) -ᶠ crossing a b q)
+  -- 'c + 1 − x(y) held between 0 and 1': with u and v at the two heights it is no less than the height times the lesser, and no more than the height times the greater; which comes first
+  -- does not matter
+  pub between : (p q u v : Fraction) → p ≤ᶠ q → u ≤ᶠ v → ((q -ᶠ p) *ᶠ clampᶠ u ≤ᶠ integral p q u v) × (integral p q u v ≤ᶠ (q -ᶠ p) *ᶠ clampᶠ v)
+  pub either-way : (p q u v : Fraction) → integral p q u v ≈ᶠ integral p q v u
   -- 'or, when u = v, (q − p) times u held between 0 and 1', of any two fractions that are one number
   pub level : (p q u v : Fraction) → u ≈ᶠ v → integral p q u v ≈ᶠ (q -ᶠ p) *ᶠ clampᶠ u
-  -- an edge's part in a cell is at most 1 in size
+  -- 'Its part in a cell .. is +1 (y grows along the contour) or −1, times the integral': downwards it is not below 0, and the edge turned round has it with the other sign
+  pub downwards : (e : ExactEdge) (column row : ℕ) → e .«from» .y <ᶠ e .to .y → natᶠ 0 ≤ᶠ exactPart e column row
+  pub turned : (e : ExactEdge) (column row : ℕ) → exactPart (record { «from» = e .to; to = e .«from» }) column row ≈ᶠ negᶠ (exactPart e column row)
+  -- it is at most 1 in size
   pub part-at-most-one : (e : ExactEdge) (column row : ℕ) → Within (exactPart e column row) (natᶠ 1)
 
 -- 'it is not level and overlaps the row in more than a point': its upper end lies above the row's lower side, and its lower end below the row's upper side

@@ -107,7 +107,7 @@ fn value_at(words: &[i32], at: usize) -> Word
     Word::Value(words[at])
 }
 
-// The place behind another, or the list's end.
+// The place behind another, or the same where the list has ended.
 fn place_behind(words: &[i32], at: usize) -> usize
     ensures { λ r. ⌜ drop r (now (words .entry)) ≡ drop (at + 1) (now (words .entry)) ⌝ }
 {
