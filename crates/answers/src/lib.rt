@@ -1,4 +1,7 @@
 // What is written: an answer a line.
+use clip_coverage::ClipCoverage;
+use clip_coverage::CoverageAnswer;
+use clip_coverage::DistanceAnswer;
 use fault::Fault;
 use fields::Problem;
 use geometry::Bounds;
@@ -6,9 +9,6 @@ use libc::STDOUT_FILENO;
 use mask::Outcome;
 use shape::BoundsAnswer;
 use shape::BoxAnswer;
-use shape::ClipCoverage;
-use shape::CoverageAnswer;
-use shape::DistanceAnswer;
 use shape::RoundedBox;
 use shape::TestAnswer;
 use touch::TouchAnswer;

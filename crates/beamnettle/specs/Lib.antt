@@ -1,6 +1,2 @@
--- Lent: boxes and coverages as lent floats. Outcomes: the numbers of ordinary outcomes. Calls: what each exported call
--- answers, by number, and what is lent afterwards. Numbers: no outcome's number is a cause's.
-pub mod Lent
-pub mod Outcomes
+-- Calls: what each exported call answers.
 pub mod Calls
-pub mod Numbers

@@ -1,5 +1,5 @@
--- A piece across cells: what is worked out of it, how far each number is off, and the sums of the entries against G. e and l are how far it reaches into its first and
--- its last cell, r is 1 / (hi - lo). Assumes nothing.
+-- A piece across cells: what is worked out of it, how far each number is off, and the sums of the entries against G. e
+-- and l are how far it reaches into its first and its last cell, r is 1 / (hi - lo). Assumes nothing.
 use mathlib.Core.Path.{_≡_, refl, sym, ap, subst}
 use mathlib.Core.List.{List, [], _∷_, _++_}
 use mathlib.Core.Bool.{Bool, true, false, not}
@@ -13,8 +13,9 @@ use lib.Ieee.Fits.{sub-fits, mul-fits}
 use lib.Ieee.Scale.{finite}
 use Rattle.fraction.specs.Whole.{natʷ, sizeʷ, _-ʷ_}
 use Rattle.fraction.specs.Fraction.{Fraction, _≤ᶠ_, _<ᶠ_, _≈ᶠ_, natᶠ, _/2^_, _+ᶠ_, _-ᶠ_, _*ᶠ_, absᶠ, invᶠ, Near, Within}
-use Rattle.fraction.proofs.Linear.{at, at-le, at-lt, at-eq, at-same, le-at, lt-at, eq-at, add-at, sub-at, scale-at, over, lit, lit≈, trans}
-use Rattle.fraction.proofs.Order.{of-eq, of-lt, sym≈, trans≈, refl≤, refl≈, add-mono, mul-comm, mul-cong, mul-assoc, mul-one, mul-mono, mul-mono-right, mul-add, mul-nonneg, inv-mul, inv-nonneg, zero-mul, one-more, above-not, nat-le}
+use Rattle.fraction.proofs.Linear.{at, at-le, at-lt, at-eq, at-same, le-at, lt-at, eq-at, add-at, sub-at, scale-at, over, lit, trans}
+use Rattle.fraction.proofs.Order.{of-eq, of-lt, sym≈, trans≈, refl≤, refl≈, add-mono, above-not, nat-le, one-more}
+use Rattle.fraction.proofs.Order.{mul-comm, mul-cong, mul-assoc, mul-one, mul-mono, mul-mono-right, mul-add, mul-nonneg, inv-mul, inv-nonneg, zero-mul}
 use Rattle.fraction.proofs.Near.{near-refl, near-weaken, near-same, near-add, near-by, within-weaken, within-self, within-mul, within-same, within-sub}
 use Rattle.fraction.proofs.Abs.{abs-mul, abs-self}
 use Rattle.fraction.proofs.Relative.{rel-near}
@@ -30,7 +31,8 @@ use Rattle.float.specs.Ops.{_⊕_, _⊖_, _⊗_, f½, f1}
 use Rattle.float.specs.Whole.{ofWhole}
 use Rattle.winding.proofs.MeanOf.{G}
 use Rattle.winding.proofs.Cells.{G-right, G-left, G-first, G-between, G-last}
-use Rattle.bound.proofs.Entries.{Entry, entry, pick, tally, worth, size, before, anywhere, prefix, total, Fine, Rising, tally-append, fine-append, pick-in, pick-out, rising-weaken, rising-from, rising-once}
+use Rattle.bound.proofs.Entries.{Entry, entry, pick, tally, worth, size, before, anywhere, prefix, total, Fine, Rising, plus-none}
+use Rattle.bound.proofs.Entries.{prefix-in, prefix-none, prefix-one, prefix-append, tally-append, fine-append, rising-weaken, rising-from, rising-once}
 use Rattle.bound.proofs.Model.{evenE, perOf, entersOf, leavesOf, cornerOf, secondOf}
 use Rattle.bound.proofs.Adds.{Adds, cutTwice, acrossError}
 use Rattle.bound.proofs.Numbers.{Num, whole-is, half-is, one-is}
@@ -38,7 +40,8 @@ use Rattle.bound.proofs.Floor.{floor-sub, apart}
 use Rattle.bound.proofs.OneCell.{one, sized, size-of}
 use Rattle.bound.proofs.Products.{approx-weaken, approx-same, approx-exact, approx-rounds, approx-known, leafOf, Fit, product}
 
--- the errors of the first and the last amount, of one between them, of all the even ones together, and of all but the last
+-- the errors of the first and the last amount, of one between them, of all the even ones together, and of all but the
+-- last
 abbrev endError : Fraction
 endError = 1 /2^ 17
 
@@ -52,8 +55,8 @@ abbrev restError : Fraction
 restError = 11 /2^ 18
 
 -- ---- entries of one amount in n cells from i on
-prefix-even : (n i : ℕ) (f : Float) (c : ℕ) → tally worth (before (suc c)) (evenE n i f) ≈ᶠ natᶠ (min n (c + 1 - i)) *ᶠ val f
-unfolding evenE
+prefix-even : (n i : ℕ) (f : Float) (c : ℕ) → prefix (evenE n i f) c ≈ᶠ natᶠ (min n (c + 1 - i)) *ᶠ val f
+unfolding evenE prefix
 prefix-even zero i f c = rw (zero-min (c + 1 - i)) (sym≈ (zero-mul (val f)))
 prefix-even (suc n) i f c = go (ltb i (suc c)) (ltb→lt i (suc c)) (nltb→le i (suc c)) (prefix-even n (i + 1) f c)
   where
@@ -88,8 +91,20 @@ unfolding evenE
 rising-even zero i f m h = rising-weaken i (i + 0) m (omega arith) h
 rising-even (suc n) i f m h = (le-refl i, rising-weaken (suc i) (i + 1) (evenE n (i + 1) f ++ m) (omega arith) (rising-even n (i + 1) f m (rising-weaken (i + 1 + n) (i + suc n) m (omega arith) h)))
 
-module _ (lo hi : Float) (first pen j : ℕ) (a : Float) (Lo : Num lo (natᶠ 4096)) (Hi : Num hi (natᶠ 4096)) (A : Num a cutTwice) (P : suc pen ≤ 4096) (J : pen ≡ suc (first + j))
-    (from : natᶠ first ≤ᶠ val lo) (below : val lo <ᶠ natᶠ (suc first)) (beyond : natᶠ pen <ᶠ val hi) (to : val hi ≤ᶠ natᶠ (suc pen)) where
+-- a piece from lo in the cell `first` to hi in the cell `pen`, or at its right, with j whole cells between them, and
+-- with the signed height a
+pub record Across (lo hi : Float) (first pen j : ℕ) (a : Float) : Type 0 where
+  pub low : Num lo (natᶠ 4096)
+  pub high : Num hi (natᶠ 4096)
+  pub height : Num a cutTwice
+  pub few : suc pen ≤ 4096
+  pub between : pen ≡ suc (first + j)
+  pub from : natᶠ first ≤ᶠ val lo
+  pub below : val lo <ᶠ natᶠ (suc first)
+  pub beyond : natᶠ pen <ᶠ val hi
+  pub to : val hi ≤ᶠ natᶠ (suc pen)
+
+module _ (lo hi : Float) (first pen j : ℕ) (a : Float) (piece : Across lo hi first pen j a) where
   -- ---- the exact numbers
   abbrev pub W : Fraction
   W = val hi -ᶠ val lo
@@ -104,13 +119,13 @@ module _ (lo hi : Float) (first pen j : ℕ) (a : Float) (Lo : Num lo (natᶠ 40
   l = val hi -ᶠ natᶠ pen
 
   inside : natᶠ (suc first) <ᶠ val hi
-  inside = over (natᶠ (suc first) ∷ natᶠ pen ∷ val hi ∷ []) (λ N n F Q H. lt-at N F H (omega (arith, F .is, Q .is, ap (λ (t : ℕ). t * N) J, at-lt N Q H n beyond)))
+  inside = over (natᶠ (suc first) ∷ natᶠ pen ∷ val hi ∷ []) (λ N n F Q H. lt-at N F H (omega (arith, F .is, Q .is, ap (λ (t : ℕ). t * N) (piece .between), at-lt N Q H n (piece .beyond))))
 
   lo-nonneg : natᶠ 0 ≤ᶠ val lo
-  lo-nonneg = trans (record { le = omega arith }) from
+  lo-nonneg = trans (record { le = omega arith }) (piece .from)
 
   W-ge : 1 /2^ 24 ≤ᶠ W
-  W-ge = apart lo hi first Lo Hi lo-nonneg below inside
+  W-ge = apart lo hi first (piece .low) (piece .high) lo-nonneg (piece .below) inside
 
   W-pos : natᶠ 0 <ᶠ W
   W-pos = over (W ∷ natᶠ 0 ∷ 1 /2^ 24 ∷ []) (λ N n A O B. lt-at N O A (omega (arith, n, O .is, B .is, at-le N B A W-ge)))
@@ -119,21 +134,21 @@ module _ (lo hi : Float) (first pen j : ℕ) (a : Float) (Lo : Num lo (natᶠ 40
   rW = inv-mul W (above-not W-pos)
 
   pub e-nonneg : natᶠ 0 ≤ᶠ e
-  e-nonneg = over (natᶠ 0 ∷ natᶠ (suc first) ∷ val lo ∷ []) (λ N n O F L. le-at N O (sub-at N F L) n (omega (arith, O .is, at-lt N L F n below)))
+  e-nonneg = over (natᶠ 0 ∷ natᶠ (suc first) ∷ val lo ∷ []) (λ N n O F L. le-at N O (sub-at N F L) n (omega (arith, O .is, at-lt N L F n (piece .below))))
 
   pub e-le : e ≤ᶠ natᶠ 1
-  e-le = over (natᶠ 1 ∷ natᶠ (suc first) ∷ natᶠ first ∷ val lo ∷ []) (λ N n O F Q L. le-at N (sub-at N F L) O n (omega (arith, O .is, F .is, Q .is, at-le N Q L from)))
+  e-le = over (natᶠ 1 ∷ natᶠ (suc first) ∷ natᶠ first ∷ val lo ∷ []) (λ N n O F Q L. le-at N (sub-at N F L) O n (omega (arith, O .is, F .is, Q .is, at-le N Q L (piece .from))))
 
   pub l-nonneg : natᶠ 0 ≤ᶠ l
-  l-nonneg = over (natᶠ 0 ∷ natᶠ pen ∷ val hi ∷ []) (λ N n O F L. le-at N O (sub-at N L F) n (omega (arith, O .is, at-lt N F L n beyond)))
+  l-nonneg = over (natᶠ 0 ∷ natᶠ pen ∷ val hi ∷ []) (λ N n O F L. le-at N O (sub-at N L F) n (omega (arith, O .is, at-lt N F L n (piece .beyond))))
 
   pub l-le : l ≤ᶠ natᶠ 1
-  l-le = over (natᶠ 1 ∷ natᶠ (suc pen) ∷ natᶠ pen ∷ val hi ∷ []) (λ N n O F Q H. le-at N (sub-at N H Q) O n (omega (arith, O .is, F .is, Q .is, at-le N H F to)))
+  l-le = over (natᶠ 1 ∷ natᶠ (suc pen) ∷ natᶠ pen ∷ val hi ∷ []) (λ N n O F Q H. le-at N (sub-at N H Q) O n (omega (arith, O .is, F .is, Q .is, at-le N H F (piece .to))))
 
   -- hi - lo is e, the cells between, and l
   W-is : W ≈ᶠ e +ᶠ natᶠ j +ᶠ l
   W-is = over (val lo ∷ val hi ∷ natᶠ (suc first) ∷ natᶠ pen ∷ natᶠ j ∷ []) (λ N n L H F Q K.
-      eq-at N (search at) (search at) n (omega (arith, F .is, Q .is, K .is, ap (λ (t : ℕ). t * N) J)))
+      eq-at N (search at) (search at) n (omega (arith, F .is, Q .is, K .is, ap (λ (t : ℕ). t * N) (piece .between))))
 
   pub r-nonneg : natᶠ 0 ≤ᶠ r
   r-nonneg = inv-nonneg W W-pos
@@ -175,20 +190,23 @@ module _ (lo hi : Float) (first pen j : ℕ) (a : Float) (Lo : Num lo (natᶠ 40
   r-within = within-weaken (within-self r-nonneg) r-le
 
   wide : Rounds binary32 (natᶠ 0) W (hi ⊖ lo)
-  wide = sub-rounds binary32 hi lo (Hi .fine) (Lo .fine) (Hi .held) (Lo .held) (within-weaken (within-sub (Hi .within) (Lo .within)) (unfold _+ᶠ_ in lit tt))
+  wide =
+      sub-rounds binary32 hi lo (piece .high .fine) (piece .low .fine) (piece .high .held) (piece .low .held)
+      (within-weaken (within-sub (piece .high .within) (piece .low .within)) (unfold _+ᶠ_ in lit tt))
 
   per-ok : Approx binary32 per r (1 /2^ 22) (1 /2^ 149)
   unfolding _+ᶠ_ _-ᶠ_ _*ᶠ_
   per-ok = approx-weaken (lit tt) (lit tt) (approx-same (trans≈ (mul-comm (natᶠ 1) r) (mul-one r))
-      (div-approx binary32 f1 (hi ⊖ lo) (natᶠ 1) W (natᶠ 0) (natᶠ 0) (natᶠ 1) (roundoff binary32) (17 /2^ 28) (natᶠ (2 ^ 24)) (approx-exact one-is) (approx-rounds wide (sub-fits binary32 hi lo)) (above-not W-pos) (lit tt) (lit tt)
+      (div-approx binary32 f1 (hi ⊖ lo) (natᶠ 1) W (natᶠ 0) (natᶠ 0) (natᶠ 1) (roundoff binary32) (17 /2^ 28) (natᶠ (2 ^ 24))
+      (approx-exact one-is) (approx-rounds wide (sub-fits binary32 hi lo)) (above-not W-pos) (lit tt) (lit tt)
       (record { r0 = lit tt; s0 = lit tt; t0 = lit tt; v0 = lit tt; both0 = lit tt }) (within-self (lit tt)) r-within (lit tt)))
 
   first-le : first ≤ 4096
-  first-le = omega (arith, P, J)
+  first-le = omega (arith, piece .few, piece .between)
 
   enters-ok : Approx binary32 enters e (roundoff binary32) (natᶠ 0)
   enters-ok =
-      let I = floor-sub lo first Lo first-le from below in
+      let I = floor-sub lo first (piece .low) first-le (piece .from) (piece .below) in
       let q : val f1 -ᶠ val (lo ⊖ ofWhole first) ≈ᶠ e = over (val f1 ∷ natᶠ 1 ∷ val (lo ⊖ ofWhole first) ∷ val lo ∷ natᶠ first ∷ natᶠ (suc first) ∷ []) (λ N n X O Y L F G.
       eq-at N (sub-at N X Y) (sub-at N G L) n (omega (arith, O .is, F .is, G .is, at-eq N X O (one-is .eq), at-eq N Y (sub-at N L F) (I .eq)))) in
       approx-rounds (rounds-same q (sub-rounds binary32 f1 (lo ⊖ ofWhole first) (one-is .fine) (I .fine) (one-is .held) (sub-fits binary32 lo (ofWhole first))
@@ -196,11 +214,13 @@ module _ (lo hi : Float) (first pen j : ℕ) (a : Float) (Lo : Num lo (natᶠ 40
 
   last-is : Is (natᶠ pen) (ofWhole (suc pen) ⊖ f1)
   last-is =
-      let F = whole-is (suc pen) (omega (arith, P)) in
+      let F = whole-is (suc pen) (omega (arith, piece .few)) in
       let X = at-same 1 (sym≈ (F .eq)) (record { z = natʷ (suc pen); is = omega arith }) in
       let Y = at-same 1 (sym≈ (one-is .eq)) (record { z = natʷ 1; is = refl }) in
-      is-same (over (val (ofWhole (suc pen)) ∷ natᶠ (suc pen) ∷ val f1 ∷ natᶠ 1 ∷ natᶠ pen ∷ []) (λ N n U S T O Q. eq-at N (sub-at N U T) Q n (omega (arith, S .is, O .is, Q .is, at-eq N U S (F .eq), at-eq N T O (one-is .eq)))))
-      (sub-exact binary32 0 (ofWhole (suc pen)) f1 (F .fine) (one-is .fine) (lit≤ tt) X Y (big pen P))
+      let e = over (val (ofWhole (suc pen)) ∷ natᶠ (suc pen) ∷ val f1 ∷ natᶠ 1 ∷ natᶠ pen ∷ []) (λ N n U S T O Q.
+      eq-at N (sub-at N U T) Q n (omega (arith, S .is, O .is, Q .is, at-eq N U S (F .eq), at-eq N T O (one-is .eq)))) in
+      is-same e
+      (sub-exact binary32 0 (ofWhole (suc pen)) f1 (F .fine) (one-is .fine) (lit≤ tt) X Y (big pen (piece .few)))
     where
       big : (n : ℕ) → suc n ≤ 4096 → sizeʷ (natʷ (suc n) -ʷ natʷ 1) < 2 ^ 24
       big n h = omega (arith, lit≤ {m = 8193} {n = 2 ^ 24} tt)
@@ -208,7 +228,7 @@ module _ (lo hi : Float) (first pen j : ℕ) (a : Float) (Lo : Num lo (natᶠ 40
   leaves-ok : Approx binary32 leaves l (roundoff binary32) (natᶠ 0)
   leaves-ok =
       let q : val hi -ᶠ val (ofWhole (suc pen) ⊖ f1) ≈ᶠ l = cong-sub (refl≈ (val hi)) (last-is .eq) in
-      approx-rounds (rounds-same q (sub-rounds binary32 hi (ofWhole (suc pen) ⊖ f1) (Hi .fine) (last-is .fine) (Hi .held) (sub-fits binary32 (ofWhole (suc pen)) f1)
+      approx-rounds (rounds-same q (sub-rounds binary32 hi (ofWhole (suc pen) ⊖ f1) (piece .high .fine) (last-is .fine) (piece .high .held) (sub-fits binary32 (ofWhole (suc pen)) f1)
       (within-same (sym≈ q) (within-weaken (within-self l-nonneg) (trans l-le (lit tt)))))) (sub-fits binary32 hi (ofWhole (suc pen) ⊖ f1))
 
   -- ---- half of per, and the corners: half of r times the square of a side
@@ -265,7 +285,7 @@ module _ (lo hi : Float) (first pen j : ℕ) (a : Float) (Lo : Num lo (natᶠ 40
   tail-l = leafOf (corner leaves l leaves-ok l-nonneg l-le rl-le)
 
   abbrev amount : Leaf binary32
-  amount = sized a cutTwice A
+  amount = sized a cutTwice (piece .height)
 
   -- ---- the first entry and the last
   x1-ok : T (finite (a ⊗ head)) × Near (val (a ⊗ head)) (val a *ᶠ h) endError
@@ -279,19 +299,98 @@ module _ (lo hi : Float) (first pen j : ℕ) (a : Float) (Lo : Num lo (natᶠ 40
   -- the one in the middle, of two cells
   x2-two : T (finite (a ⊗ (f1 ⊖ head ⊖ tail))) × Near (val (a ⊗ (f1 ⊖ head ⊖ tail))) (val a *ᶠ (natᶠ 1 -ᶠ h -ᶠ t)) middleError
   unfolding one _+ᶠ_ _*ᶠ_
-  x2-two = let d = analyse (op times auto (leaf amount) (op minus auto (op minus auto (leaf one) (leaf head-l)) (leaf tail-l))) tt (tt, tt, tt, (tt, tt, (tt, tt, tt, tt), tt)) in (d .fine, near-weaken (d .near) (lit tt))
+  x2-two =
+      let d = analyse (op times auto (leaf amount) (op minus auto (op minus auto (leaf one) (leaf head-l)) (leaf tail-l))) tt (tt, tt, tt, (tt, tt, (tt, tt, tt, tt), tt)) in
+      (d .fine, near-weaken (d .near) (lit tt))
 
   order : val lo ≤ᶠ val hi
-  order = over (val lo ∷ val hi ∷ natᶠ (suc first) ∷ []) (λ N n L U F. le-at N L U n (omega (arith, at-lt N L F n below, at-lt N F U n inside)))
+  order = over (val lo ∷ val hi ∷ natᶠ (suc first) ∷ []) (λ N n L U F. le-at N L U n (omega (arith, at-lt N L F n (piece .below), at-lt N F U n inside)))
 
   least : (i : ℕ) → natᶠ i ≤ᶠ val lo → i ≤ first
-  least i m = over (natᶠ i ∷ natᶠ (suc first) ∷ val lo ∷ []) (λ N n X F L. le-of-suc-le-suc (lt-of-mul-lt-mul-right N (omega (arith, X .is, F .is, at-le N X L m, at-lt N L F n below))))
+  least i m = over (natᶠ i ∷ natᶠ (suc first) ∷ val lo ∷ []) (λ N n X F L. le-of-suc-le-suc (lt-of-mul-lt-mul-right N (omega (arith, X .is, F .is, at-le N X L m, at-lt N L F n (piece .below)))))
 
   right-of : (c : ℕ) → c < first → G c (val lo) (val hi) ≈ᶠ natᶠ 0
-  right-of c m = let k : natᶠ (suc c) ≤ᶠ val lo = trans (nat-le m) from in G-right c (val lo) (val hi) k (trans k order)
+  right-of c m = let k : natᶠ (suc c) ≤ᶠ val lo = trans (nat-le m) (piece .from) in G-right c (val lo) (val hi) k (trans k order)
 
   left-of : (c : ℕ) → suc pen ≤ c → G c (val lo) (val hi) ≈ᶠ natᶠ 1
-  left-of c m = let k : val hi ≤ᶠ natᶠ c = trans to (nat-le m) in G-left c (val lo) (val hi) (trans order k) k
+  left-of c m = let k : val hi ≤ᶠ natᶠ c = trans (piece .to) (nat-le m) in G-left c (val lo) (val hi) (trans order k) k
+
+  lo-pen : val lo ≤ᶠ natᶠ pen
+  lo-pen = over (val lo ∷ natᶠ (suc first) ∷ natᶠ pen ∷ []) (λ N n L B A.
+      le-at N L A n (omega (arith, A .is, B .is, ap (λ (d : ℕ). d * N) (piece .between), at-lt N L B n (piece .below))))
+
+  abbrev x1 : Float
+  x1 = a ⊗ head
+
+  abbrev last : List Entry
+  last = entry (suc pen) (a ⊗ tail) ∷ []
+
+  -- ---- The cells where every such piece is alike. `rest` is what follows the first entry; but for the last one it
+  -- comes to `sum`
+  module _ (rest : List Entry) (sum : Fraction) (rises : Rising (suc first) rest) (is : (c : ℕ) → pen ≤ c → prefix rest c ≈ᶠ sum +ᶠ prefix last c)
+      (but : Near (val x1 +ᶠ sum) (val a *ᶠ (natᶠ 1 -ᶠ t)) restError) where
+    abbrev whole : List Entry
+    whole = entry first x1 ∷ rest
+
+    abbrev At : ℕ → Type 0
+    At c = Near (prefix whole c) (val a *ᶠ G c (val lo) (val hi)) acrossError
+
+    -- left of the piece
+    at-left : (c : ℕ) → c < first → At c
+    at-left c m =
+        let g = trans≈ (mul-cong (val a) (right-of c m)) (trans≈ (mul-comm (val a) (natᶠ 0)) (zero-mul (val a))) in
+        near-same (sym≈ (prefix-none whole c (m, rises))) (near-to (sym≈ g) (near-weaken (near-refl (natᶠ 0)) (lit tt)))
+
+    -- its first cell
+    at-first : At first
+    at-first =
+        let g = G-first first (val lo) (val hi) r rW (piece .from) (piece .below) inside in
+        near-same (sym≈ (prefix-one (entry first x1) rest first (le-refl first) rises)) (near-to (mul-cong (val a) (sym≈ g)) (near-weaken (x1-ok .1) (lit tt)))
+
+    all-but : (c : ℕ) → pen ≤ c → prefix whole c ≈ᶠ val x1 +ᶠ sum +ᶠ prefix last c
+    all-but c m = trans≈ (prefix-in (entry first x1) rest c (omega (arith, piece .between))) (trans≈ (cong-add (refl≈ (val x1)) (is c m)) (group (val x1) sum (prefix last c)))
+      where
+        group : (x y z : Fraction) → x +ᶠ (y +ᶠ z) ≈ᶠ x +ᶠ y +ᶠ z
+        group x y z = over (x ∷ y ∷ z ∷ []) (λ N n X Y Z. eq-at N (search at) (search at) n (omega arith))
+
+    -- the last cell but one
+    at-pen : At pen
+    at-pen =
+        let g = G-last pen (val lo) (val hi) r rW lo-pen (piece .beyond) (piece .to) in
+        let none = prefix-none last pen (le-refl (suc pen), tt) in
+        let p = trans≈ (all-but pen (le-refl pen)) (trans≈ (cong-add (refl≈ (val x1 +ᶠ sum)) none) (plus-none (val x1 +ᶠ sum))) in
+        near-same (sym≈ p) (near-to (mul-cong (val a) (sym≈ g)) (near-weaken but (lit tt)))
+
+    -- right of the piece
+    at-right : (c : ℕ) → suc pen ≤ c → At c
+    at-right c m =
+        let g = trans≈ (mul-cong (val a) (left-of c m)) (mul-one (val a)) in
+        let p = trans≈ (all-but c (omega (arith, m))) (cong-add (refl≈ (val x1 +ᶠ sum)) (prefix-one (entry (suc pen) (a ⊗ tail)) [] c m tt)) in
+        let ρ = val a ∷ t ∷ [] in
+        let R = reps ρ in
+        let one = ring ρ {x = val a *ᶠ (natᶠ 1 -ᶠ t) +ᶠ val a *ᶠ t} {y = val a} (search rep depth 7) (search rep depth 7) tt in
+        near-same (sym≈ p) (near-to (trans≈ one (sym≈ g)) (near-weaken (near-add but (x5-ok .1)) (unfold _+ᶠ_ in lit tt)))
+
+    -- so, with what lies between, in every cell
+    at-every : ((c : ℕ) → first < c → c < pen → At c) → (c : ℕ) → At c
+    at-every mid c = go (decLe first c) (decLe (suc first) c) (decLe pen c) (decLe (suc pen) c)
+      where
+        go : Dec (first ≤ c) → Dec (suc first ≤ c) → Dec (pen ≤ c) → Dec (suc pen ≤ c) → At c
+        go (no f) x y z = at-left c (omega (arith, f))
+        go (yes m) (no f) y z = subst At (le-antisymm m (omega (arith, f))) at-first
+        go (yes m) (yes x) (no f) z = mid c x (omega (arith, f))
+        go (yes m) (yes x) (yes y) (no f) = subst At (le-antisymm y (omega (arith, f))) at-pen
+        go (yes m) (yes x) (yes y) (yes z) = at-right c z
+
+    pub adds : Fine whole → total whole ≤ᶠ absᶠ (val a) +ᶠ acrossError → ((c : ℕ) → first < c → c < pen → At c) → (w : ℕ)
+        → Adds w 1 whole (val lo) (val hi) (val a) acrossError acrossError
+    adds fine size mid w = record {
+      fine = fine;
+      near = λ c m. at-every mid c;
+      size = size;
+      few = λ i. rising-once i first whole (le-refl first, rises);
+      from = λ i m n. rising-from i first whole (least i m) (le-refl first, rises);
+    }
 
   -- ---- more than two cells: k whole ones between the second and the last but one
   module _ (k : ℕ) (K : j ≡ suc k) where
@@ -314,7 +413,8 @@ module _ (lo hi : Float) (first pen j : ℕ) (a : Float) (Lo : Num lo (natᶠ 40
     q-nonneg = mul-nonneg r-nonneg (record { le = omega arith })
 
     pub s-nonneg : natᶠ 0 ≤ᶠ s
-    s-nonneg = over (s ∷ r *ᶠ e ∷ r ∷ 1 /2^ 1 *ᶠ r ∷ natᶠ 0 ∷ []) (λ N n S X Y Z O. le-at N O S n (omega (arith, O .is, at-eq N S (add-at N X Z) s-is, scale-at N (1 /2^ 1) Y Z, at-le N O X re-nonneg, at-le N O Y r-nonneg)))
+    s-nonneg = over (s ∷ r *ᶠ e ∷ r ∷ 1 /2^ 1 *ᶠ r ∷ natᶠ 0 ∷ []) (λ N n S X Y Z O.
+        le-at N O S n (omega (arith, O .is, at-eq N S (add-at N X Z) s-is, scale-at N (1 /2^ 1) Y Z, at-le N O X re-nonneg, at-le N O Y r-nonneg)))
 
     pub s-le : s ≤ᶠ natᶠ 1
     s-le = over (s ∷ r *ᶠ e ∷ r ∷ 1 /2^ 1 *ᶠ r ∷ natᶠ 0 ∷ natᶠ 1 ∷ r *ᶠ natᶠ j ∷ r *ᶠ l ∷ q ∷ []) (λ N n S X Y Z O I M L Q. le-at N S I n (omega (
@@ -352,7 +452,8 @@ module _ (lo hi : Float) (first pen j : ℕ) (a : Float) (Lo : Num lo (natᶠ 40
     reaches : Approx binary32 (enters ⊕ f½) (e +ᶠ 1 /2^ 1) (1 /2^ 22) (natᶠ 0)
     unfolding _+ᶠ_ _*ᶠ_
     reaches = approx-weaken (lit tt) (lit tt)
-        (add-approx binary32 enters f½ e (1 /2^ 1) (roundoff binary32) (natᶠ 0) (natᶠ 0) (natᶠ 2) enters-ok (approx-weaken (lit tt) (lit tt) (approx-exact half-is)) (lit tt) e-nonneg (lit tt) reach-within (lit tt))
+        (add-approx binary32 enters f½ e (1 /2^ 1) (roundoff binary32) (natᶠ 0) (natᶠ 0) (natᶠ 2)
+        enters-ok (approx-weaken (lit tt) (lit tt) (approx-exact half-is)) (lit tt) e-nonneg (lit tt) reach-within (lit tt))
 
     second-ok : Known binary32 (secondOf per enters) s (natᶠ 1) (1 /2^ 19)
     second-ok =
@@ -360,7 +461,7 @@ module _ (lo hi : Float) (first pen j : ℕ) (a : Float) (Lo : Num lo (natᶠ 40
         approx-known (natᶠ 1) (1 /2^ 19) p (lit tt) (within-weaken (within-self s-nonneg) s-le) (unfold _+ᶠ_ _*ᶠ_ in lit tt)
 
     k-le : k ≤ 4096
-    k-le = omega (arith, P, J, K)
+    k-le = omega (arith, piece .few, piece .between, K)
 
     between-ok : Known binary32 (ofWhole k ⊗ per) q (natᶠ 1) (1 /2^ 19)
     between-ok =
@@ -390,7 +491,8 @@ module _ (lo hi : Float) (first pen j : ℕ) (a : Float) (Lo : Num lo (natᶠ 40
     x3 = a ⊗ per
 
     x3-ok : Approx binary32 x3 (val a *ᶠ r) (1 /2^ 21) (1 /2^ 147)
-    x3-ok = product cutTwice (natᶠ (2 ^ 24)) (1 /2^ 21) (1 /2^ 147) (approx-self binary32 a (A .fine) (A .held)) per-ok (A .within) r-within (unfold Fit in (tt, tt, tt, tt, tt, tt, tt, tt))
+    x3-ok = product cutTwice (natᶠ (2 ^ 24)) (1 /2^ 21) (1 /2^ 147)
+        (approx-self binary32 a (piece .height .fine) (piece .height .held)) per-ok (piece .height .within) r-within (unfold Fit in (tt, tt, tt, tt, tt, tt, tt, tt))
 
     -- i of them
     x3-times : (i : ℕ) → i ≤ k → Near (natᶠ i *ᶠ val x3) (val a *ᶠ (r *ᶠ natᶠ i)) evenError
@@ -403,7 +505,7 @@ module _ (lo hi : Float) (first pen j : ℕ) (a : Float) (Lo : Num lo (natᶠ 40
         let ρ = natᶠ i ∷ val a ∷ r ∷ Q ∷ T ∷ C ∷ [] in
         let R = reps ρ in
         near-to (ring ρ {x = natᶠ i *ᶠ (val a *ᶠ r)} {y = val a *ᶠ (r *ᶠ natᶠ i)} (search rep depth 7) (search rep depth 7) tt)
-        (near-weaken (near-by (rel-near (lit tt) (x3-ok .rel) (within-mul (A .within) (within-self r-nonneg))) (within-self z))
+        (near-weaken (near-by (rel-near (lit tt) (x3-ok .rel) (within-mul (piece .height .within) (within-self r-nonneg))) (within-self z))
         (trans (of-eq (ring ρ {x = natᶠ i *ᶠ (Q *ᶠ (C *ᶠ r) +ᶠ T)} {y = Q *ᶠ C *ᶠ (r *ᶠ natᶠ i) +ᶠ T *ᶠ natᶠ i} (search rep depth 9) (search rep depth 9) tt))
         (trans (add-mono (mul-mono (unfold _*ᶠ_ in lit tt) b) (mul-mono (lit tt) (record { le = omega (arith, m, k-le) }))) small)))
       where
@@ -411,28 +513,44 @@ module _ (lo hi : Float) (first pen j : ℕ) (a : Float) (Lo : Num lo (natᶠ 40
         small = unfold _+ᶠ_ _*ᶠ_ in lit tt
 
     -- ---- the list
-    abbrev pub moreL : List Entry
-    moreL = entry first (a ⊗ head) ∷ entry (first + 1) x2 ∷ evenE k (first + 2) x3 ++ (entry pen x4 ∷ entry (suc pen) (a ⊗ tail) ∷ [])
+    abbrev ends : List Entry
+    ends = entry pen x4 ∷ last
 
-    abbrev some : ℕ → ℕ
-    some c = min k (c + 1 - (first + 2))
+    abbrev moreRest : List Entry
+    moreRest = entry (first + 1) x2 ∷ evenE k (first + 2) x3 ++ ends
 
-    prefix-is : (c : ℕ) → prefix moreL c ≈ᶠ pick (ltb first (suc c)) (val (a ⊗ head)) +ᶠ (pick (ltb (first + 1) (suc c)) (val x2) +ᶠ (natᶠ (some c) *ᶠ val x3 +ᶠ (pick (ltb pen (suc c)) (val x4) +ᶠ pick (ltb (suc pen) (suc c)) (val (a ⊗ tail)))))
-    unfolding prefix
-    prefix-is c =
-        let rest : List Entry = entry pen x4 ∷ entry (suc pen) (a ⊗ tail) ∷ [] in
-        over (pick (ltb first (suc c)) (val (a ⊗ head)) ∷ pick (ltb (first + 1) (suc c)) (val x2) ∷ tally worth (before (suc c)) (evenE k (first + 2) x3 ++ rest) ∷ tally worth (before (suc c)) (evenE k (first + 2) x3) ∷ natᶠ (some c) *ᶠ val x3 ∷ pick (ltb pen (suc c)) (val x4) ∷ pick (ltb (suc pen) (suc c)) (val (a ⊗ tail)) ∷ natᶠ 0 ∷ []) (λ N n s1 s2 p pe m s4 s5 o.
-        eq-at N (search at) (search at) n (omega (arith, o .is, at-eq N p (add-at N pe (add-at N s4 (add-at N s5 o))) (tally-append worth (before (suc c)) (evenE k (first + 2) x3) rest), at-eq N pe m (prefix-even k (first + 2) x3 c))))
+    abbrev moreSum : Fraction
+    moreSum = val x2 +ᶠ (natᶠ k *ᶠ val x3 +ᶠ val x4)
 
-    total-is : total moreL ≈ᶠ absᶠ (val (a ⊗ head)) +ᶠ (absᶠ (val x2) +ᶠ (absᶠ (natᶠ k *ᶠ val x3) +ᶠ (absᶠ (val x4) +ᶠ absᶠ (val (a ⊗ tail)))))
+    -- i of the even ones lie in cells up to c
+    even-is : (c i : ℕ) → min k (c + 1 - (first + 2)) ≡ i → prefix (evenE k (first + 2) x3) c ≈ᶠ natᶠ i *ᶠ val x3
+    even-is c i z = subst (λ (d : ℕ). prefix (evenE k (first + 2) x3) c ≈ᶠ natᶠ d *ᶠ val x3) z (prefix-even k (first + 2) x3 c)
+
+    up-to : (c i : ℕ) → first < c → min k (c + 1 - (first + 2)) ≡ i → prefix moreRest c ≈ᶠ val x2 +ᶠ (natᶠ i *ᶠ val x3 +ᶠ prefix ends c)
+    up-to c i m z =
+        trans≈ (prefix-in (entry (first + 1) x2) (evenE k (first + 2) x3 ++ ends) c (omega (arith, m)))
+        (cong-add (refl≈ (val x2)) (trans≈ (prefix-append (evenE k (first + 2) x3) ends c) (cong-add (even-is c i z) (refl≈ (prefix ends c)))))
+
+    more-is : (c : ℕ) → pen ≤ c → prefix moreRest c ≈ᶠ moreSum +ᶠ prefix last c
+    more-is c m =
+        let p = up-to c k (omega (arith, piece .between, K, m)) (omega (arith, piece .between, K, m)) in
+        let q = cong-add (refl≈ (val x2)) (cong-add (refl≈ (natᶠ k *ᶠ val x3)) (prefix-in (entry pen x4) last c m)) in
+        trans≈ p (trans≈ q (group (val x2) (natᶠ k *ᶠ val x3) (val x4) (prefix last c)))
+      where
+        group : (x y z v : Fraction) → x +ᶠ (y +ᶠ (z +ᶠ v)) ≈ᶠ x +ᶠ (y +ᶠ z) +ᶠ v
+        group x y z v = over (x ∷ y ∷ z ∷ v ∷ []) (λ N n X Y Z W. eq-at N (search at) (search at) n (omega arith))
+
+    total-is : total (entry first x1 ∷ moreRest) ≈ᶠ absᶠ (val x1) +ᶠ (absᶠ (val x2) +ᶠ (absᶠ (natᶠ k *ᶠ val x3) +ᶠ (absᶠ (val x4) +ᶠ absᶠ (val (a ⊗ tail)))))
     unfolding total
     total-is =
-        let rest : List Entry = entry pen x4 ∷ entry (suc pen) (a ⊗ tail) ∷ [] in
-        over (absᶠ (val (a ⊗ head)) ∷ absᶠ (val x2) ∷ tally size anywhere (evenE k (first + 2) x3 ++ rest) ∷ tally size anywhere (evenE k (first + 2) x3) ∷ natᶠ k *ᶠ absᶠ (val x3) ∷ absᶠ (natᶠ k *ᶠ val x3) ∷ absᶠ (val x4) ∷ absᶠ (val (a ⊗ tail)) ∷ natᶠ 0 ∷ absᶠ (natᶠ k) *ᶠ absᶠ (val x3) ∷ []) (λ N n s1 s2 p pe m m' s4 s5 o w.
+        let even = evenE k (first + 2) x3 in
+        let sizes = absᶠ (val x1) ∷ absᶠ (val x2) ∷ tally size anywhere (even ++ ends) ∷ tally size anywhere even ∷ [] in
+        let amounts = natᶠ k *ᶠ absᶠ (val x3) ∷ absᶠ (natᶠ k *ᶠ val x3) ∷ absᶠ (val x4) ∷ absᶠ (val (a ⊗ tail)) ∷ natᶠ 0 ∷ absᶠ (natᶠ k) *ᶠ absᶠ (val x3) ∷ [] in
+        over (sizes ++ amounts) (λ N n s1 s2 p pe m m' s4 s5 o w.
         eq-at N (search at) (search at) n (omega (
           arith,
           o .is,
-          at-eq N p (add-at N pe (add-at N s4 (add-at N s5 o))) (tally-append size anywhere (evenE k (first + 2) x3) rest),
+          at-eq N p (add-at N pe (add-at N s4 (add-at N s5 o))) (tally-append size anywhere even ends),
           at-eq N pe m (total-even k (first + 2) x3),
           at-eq N m' w (abs-mul (natᶠ k) (val x3)),
           at-eq N w m (cong-mul (abs-self (nat-le {m = 0} {n = k} (omega arith))) (record { eq = refl })),
@@ -466,160 +584,94 @@ module _ (lo hi : Float) (first pen j : ℕ) (a : Float) (Lo : Num lo (natᶠ 40
       at-eq N M (add-at N Q U) rj-is,
     )))
 
-    more-size : total moreL ≤ᶠ absᶠ (val a) +ᶠ acrossError
+    abbrev fourth : Fraction
+    fourth = natᶠ 1 -ᶠ (s +ᶠ q) -ᶠ t
+
+    more-size : total (entry first x1 ∷ moreRest) ≤ᶠ absᶠ (val a) +ᶠ acrossError
     more-size =
         let B = absᶠ (val a) in
         let ρ = B ∷ h ∷ s ∷ q ∷ t ∷ [] in
         let R = reps ρ in
-        let sum = ring ρ {x = B *ᶠ h +ᶠ (B *ᶠ (s -ᶠ h) +ᶠ (B *ᶠ q +ᶠ (B *ᶠ (natᶠ 1 -ᶠ (s +ᶠ q) -ᶠ t) +ᶠ B *ᶠ t)))} {y = B} (search rep depth 9) (search rep depth 9) tt in
-        let w = add-mono (size-of (val a) h (h-small .0) (x1-ok .1)) (add-mono (size-of (val a) (s -ᶠ h) step2 (x2-ok .1)) (add-mono (size-of (val a) q q-nonneg (x3-times k (le-refl k)))
-        (add-mono (size-of (val a) (natᶠ 1 -ᶠ (s +ᶠ q) -ᶠ t) step4 (x4-ok .1)) (size-of (val a) t (t-small .0) (x5-ok .1))))) in
-        trans (of-eq total-is) (trans w (over (B ∷ B *ᶠ h ∷ B *ᶠ (s -ᶠ h) ∷ B *ᶠ q ∷ B *ᶠ (natᶠ 1 -ᶠ (s +ᶠ q) -ᶠ t) ∷ B *ᶠ t ∷ endError ∷ middleError ∷ evenError ∷ acrossError ∷ []) (λ N n b y1 y2 y3 y4 y5 e17 e16 e19 e14.
+        let sum = ring ρ {x = B *ᶠ h +ᶠ (B *ᶠ (s -ᶠ h) +ᶠ (B *ᶠ q +ᶠ (B *ᶠ fourth +ᶠ B *ᶠ t)))} {y = B} (search rep depth 9) (search rep depth 9) tt in
+        let last-two = add-mono (size-of (val a) fourth step4 (x4-ok .1)) (size-of (val a) t (t-small .0) (x5-ok .1)) in
+        let from-third = add-mono (size-of (val a) q q-nonneg (x3-times k (le-refl k))) last-two in
+        let w = add-mono (size-of (val a) h (h-small .0) (x1-ok .1)) (add-mono (size-of (val a) (s -ᶠ h) step2 (x2-ok .1)) from-third) in
+        let parts = B ∷ B *ᶠ h ∷ B *ᶠ (s -ᶠ h) ∷ B *ᶠ q ∷ B *ᶠ fourth ∷ B *ᶠ t ∷ endError ∷ middleError ∷ evenError ∷ acrossError ∷ [] in
+        trans (of-eq total-is) (trans w (over parts (λ N n b y1 y2 y3 y4 y5 e17 e16 e19 e14.
         le-at N (search at depth 9) (search at depth 9) n (omega (arith, e17 .is, e16 .is, e19 .is, e14 .is, at-eq N (add-at N y1 (add-at N y2 (add-at N y3 (add-at N y4 y5)))) b sum)))))
 
-    more-rises : Rising first moreL
+    more-rises : Rising (suc first) moreRest
     more-rises = (
-      le-refl first,
-      (
-        omega arith,
-        rising-weaken (suc (first + 1)) (first + 2) (evenE k (first + 2) x3 ++ (entry pen x4 ∷ entry (suc pen) (a ⊗ tail) ∷ [])) (omega arith)
-            (rising-even k (first + 2) x3 (entry pen x4 ∷ entry (suc pen) (a ⊗ tail) ∷ []) (omega (arith, J, K), (le-refl (suc pen), tt))),
-      ),
+      omega arith,
+      rising-weaken (suc (first + 1)) (first + 2) (evenE k (first + 2) x3 ++ ends) (omega arith)
+          (rising-even k (first + 2) x3 ends (omega (arith, piece .between, K), (le-refl (suc pen), tt))),
     )
 
-    more-fine : Fine moreL
-    more-fine = (
-      x1-ok .0,
-      mul-fits binary32 a head,
-      (
-        x2-ok .0,
-        mul-fits binary32 a (secondOf per enters ⊖ head),
-        fine-append (evenE k (first + 2) x3) (entry pen x4 ∷ entry (suc pen) (a ⊗ tail) ∷ [])
-            (fine-even k (first + 2) x3 (x3-ok .fine) (x3-ok .held))
-            (x4-ok .0, mul-fits binary32 a (f1 ⊖ (secondOf per enters ⊕ ofWhole k ⊗ per) ⊖ tail), (x5-ok .0, mul-fits binary32 a tail, tt)),
-      ),
-    )
+    more-fine : Fine (entry first x1 ∷ moreRest)
+    more-fine =
+        let last-two : Fine ends = (x4-ok .0, mul-fits binary32 a (f1 ⊖ (secondOf per enters ⊕ ofWhole k ⊗ per) ⊖ tail), (x5-ok .0, mul-fits binary32 a tail, tt)) in (
+          x1-ok .0,
+          mul-fits binary32 a head,
+          (
+            x2-ok .0,
+            mul-fits binary32 a (secondOf per enters ⊖ head),
+            fine-append (evenE k (first + 2) x3) ends (fine-even k (first + 2) x3 (x3-ok .fine) (x3-ok .held)) last-two,
+          ),
+        )
 
-    -- how many of the even ones lie in cells up to c
-    none : (c : ℕ) → c ≤ suc first → natᶠ (some c) *ᶠ val x3 ≈ᶠ natᶠ 0
-    none c m = let z : some c ≡ 0 = omega (arith, m) in subst (λ (i : ℕ). natᶠ i *ᶠ val x3 ≈ᶠ natᶠ 0) (sym z) (zero-mul (val x3))
-
-    -- left of the piece
-    case1 : (c : ℕ) → c < first → Near (prefix moreL c) (val a *ᶠ G c (val lo) (val hi)) acrossError
-    case1 c m =
-        let g = trans≈ (mul-cong (val a) (right-of c m)) (trans≈ (mul-comm (val a) (natᶠ 0)) (zero-mul (val a))) in
-        let p : prefix moreL c ≈ᶠ natᶠ 0 = trans≈ (prefix-is c) (trans≈ (cong-add (pick-out first (suc c) (val (a ⊗ head)) m) (cong-add (pick-out (first + 1) (suc c) (val x2) (omega (arith, m))) (cong-add (none c (omega (arith, m)))
-        (cong-add (pick-out pen (suc c) (val x4) (omega (arith, m, J))) (pick-out (suc pen) (suc c) (val (a ⊗ tail)) (omega (arith, m, J))))))) nothing) in
-        near-same (sym≈ p) (near-to (sym≈ g) (near-weaken (near-refl (natᶠ 0)) (lit tt)))
-      where
-        nothing : natᶠ 0 +ᶠ (natᶠ 0 +ᶠ (natᶠ 0 +ᶠ (natᶠ 0 +ᶠ natᶠ 0))) ≈ᶠ natᶠ 0
-        nothing = unfold _+ᶠ_ in lit≈ tt
-
-    -- its first cell
-    case2 : Near (prefix moreL first) (val a *ᶠ G first (val lo) (val hi)) acrossError
-    case2 =
-        let c = first in
-        let p : prefix moreL c ≈ᶠ val (a ⊗ head) = trans≈ (prefix-is c) (trans≈ (cong-add (pick-in first (suc c) (val (a ⊗ head)) (le-refl (suc first))) (cong-add (pick-out (first + 1) (suc c) (val x2) (omega arith)) (cong-add (none c (omega arith))
-        (cong-add (pick-out pen (suc c) (val x4) (omega (arith, J))) (pick-out (suc pen) (suc c) (val (a ⊗ tail)) (omega (arith, J))))))) (nothing (val (a ⊗ head)))) in
-        near-same (sym≈ p) (near-to (mul-cong (val a) (sym≈ (G-first first (val lo) (val hi) r rW from below inside))) (near-weaken (x1-ok .1) (lit tt)))
-      where
-        nothing : (x : Fraction) → x +ᶠ (natᶠ 0 +ᶠ (natᶠ 0 +ᶠ (natᶠ 0 +ᶠ natᶠ 0))) ≈ᶠ x
-        nothing x = over (x ∷ natᶠ 0 ∷ []) (λ N n X O. eq-at N (search at) X n (omega (arith, O .is)))
-
-    -- between
-    case3 : (c i : ℕ) → c ≡ suc first + i → i ≤ k → Near (prefix moreL c) (val a *ᶠ G c (val lo) (val hi)) acrossError
-    case3 c i z m =
-        let y : some c ≡ i = omega (arith, z, m) in
-        let p : prefix moreL c ≈ᶠ val (a ⊗ head) +ᶠ (val x2 +ᶠ natᶠ i *ᶠ val x3) = trans≈ (prefix-is c) (trans≈ (cong-add (pick-in first (suc c) (val (a ⊗ head)) (omega (arith, z))) (cong-add (pick-in (first + 1) (suc c) (val x2) (omega (arith, z)))
-        (cong-add (subst (λ (d : ℕ). natᶠ (some c) *ᶠ val x3 ≈ᶠ natᶠ d *ᶠ val x3) y (record { eq = refl }))
-        (cong-add (pick-out pen (suc c) (val x4) (omega (arith, J, K, z, m))) (pick-out (suc pen) (suc c) (val (a ⊗ tail)) (omega (arith, J, K, z, m))))))) (nothing (val (a ⊗ head)) (val x2) (natᶠ i *ᶠ val x3))) in
+    -- in a cell between
+    between-sum : (i : ℕ) → val a *ᶠ h +ᶠ (val a *ᶠ (s -ᶠ h) +ᶠ val a *ᶠ (r *ᶠ natᶠ i)) ≈ᶠ val a *ᶠ (r *ᶠ (natᶠ (suc first) +ᶠ natᶠ i +ᶠ 1 /2^ 1 -ᶠ val lo))
+    between-sum i =
         let F = natᶠ (suc first) in
         let v = 1 /2^ 1 in
         let ρ = val a ∷ h ∷ r ∷ F ∷ val lo ∷ v ∷ natᶠ i ∷ [] in
         let R = reps ρ in
-        let sum = ring ρ {x = val a *ᶠ h +ᶠ (val a *ᶠ (r *ᶠ (F -ᶠ val lo +ᶠ v) -ᶠ h) +ᶠ val a *ᶠ (r *ᶠ natᶠ i))} {y = val a *ᶠ (r *ᶠ (F +ᶠ natᶠ i +ᶠ v -ᶠ val lo))} (search rep depth 9) (search rep depth 9) tt in
-        let cell : natᶠ c ≈ᶠ F +ᶠ natᶠ i = over (natᶠ c ∷ F ∷ natᶠ i ∷ []) (λ N n A B D. eq-at N A (add-at N B D) n (omega (arith, A .is, B .is, D .is, ap (λ (d : ℕ). d * N) z))) in
-        let g = G-between c (val lo) (val hi) r rW
-        (over (val lo ∷ F ∷ natᶠ c ∷ []) (λ N n L B A. le-at N L A n (omega (arith, A .is, B .is, ap (λ (d : ℕ). d * N) z, at-lt N L B n below))))
-        (trans (record { le = omega (arith, J, K, z, m) }) (of-lt beyond)) in
-        near-same (sym≈ p) (near-to (trans≈ sum (mul-cong (val a) (sym≈ (trans≈ g (mul-cong r (cong-sub (cong-add cell (record { eq = refl })) (record { eq = refl })))))))
+        ring ρ {x = val a *ᶠ h +ᶠ (val a *ᶠ (r *ᶠ (F -ᶠ val lo +ᶠ v) -ᶠ h) +ᶠ val a *ᶠ (r *ᶠ natᶠ i))} {y = val a *ᶠ (r *ᶠ (F +ᶠ natᶠ i +ᶠ v -ᶠ val lo))}
+        (search rep depth 9) (search rep depth 9) tt
+
+    between-G : (c i : ℕ) → c ≡ suc first + i → i ≤ k → G c (val lo) (val hi) ≈ᶠ r *ᶠ (natᶠ (suc first) +ᶠ natᶠ i +ᶠ 1 /2^ 1 -ᶠ val lo)
+    between-G c i z m =
+        let F = natᶠ (suc first) in
+        let cell : natᶠ c ≈ᶠ F +ᶠ natᶠ i = over (natᶠ c ∷ F ∷ natᶠ i ∷ []) (λ N n A B D.
+        eq-at N A (add-at N B D) n (omega (arith, A .is, B .is, D .is, ap (λ (d : ℕ). d * N) z))) in
+        let left : val lo ≤ᶠ natᶠ c = over (val lo ∷ F ∷ natᶠ c ∷ []) (λ N n L B A.
+        le-at N L A n (omega (arith, A .is, B .is, ap (λ (d : ℕ). d * N) z, at-lt N L B n (piece .below)))) in
+        let g = G-between c (val lo) (val hi) r rW left (trans (record { le = omega (arith, piece .between, K, z, m) }) (of-lt (piece .beyond))) in
+        trans≈ g (mul-cong r (cong-sub (cong-add cell (record { eq = refl })) (record { eq = refl })))
+
+    at-between : (c i : ℕ) → c ≡ suc first + i → i ≤ k → Near (prefix (entry first x1 ∷ moreRest) c) (val a *ᶠ G c (val lo) (val hi)) acrossError
+    at-between c i z m =
+        let p = up-to c i (omega (arith, z)) (omega (arith, z, m)) in
+        let none = prefix-none ends c (omega (arith, piece .between, K, z, m), (le-refl (suc pen), tt)) in
+        let q = cong-add (refl≈ (val x2)) (trans≈ (cong-add (refl≈ (natᶠ i *ᶠ val x3)) none) (plus-none (natᶠ i *ᶠ val x3))) in
+        let all = trans≈ (prefix-in (entry first x1) moreRest c (omega (arith, z))) (cong-add (refl≈ (val x1)) (trans≈ p q)) in
+        near-same (sym≈ all) (near-to (trans≈ (between-sum i) (mul-cong (val a) (sym≈ (between-G c i z m))))
         (near-weaken (near-add (x1-ok .1) (near-add (x2-ok .1) (x3-times i m))) (unfold _+ᶠ_ in lit tt)))
-      where
-        nothing : (x y z : Fraction) → x +ᶠ (y +ᶠ (z +ᶠ (natᶠ 0 +ᶠ natᶠ 0))) ≈ᶠ x +ᶠ (y +ᶠ z)
-        nothing x y z = over (x ∷ y ∷ z ∷ natᶠ 0 ∷ []) (λ N n X Y Z O. eq-at N (search at) (search at) n (omega (arith, O .is)))
 
     -- the sum of all but the last entry
-    all-but : Near (val (a ⊗ head) +ᶠ (val x2 +ᶠ (natᶠ k *ᶠ val x3 +ᶠ val x4))) (val a *ᶠ (natᶠ 1 -ᶠ t)) restError
-    all-but =
+    more-but : Near (val x1 +ᶠ moreSum) (val a *ᶠ (natᶠ 1 -ᶠ t)) restError
+    more-but =
         let ρ = val a ∷ h ∷ s ∷ q ∷ t ∷ [] in
         let R = reps ρ in
-        let sum = ring ρ {x = val a *ᶠ h +ᶠ (val a *ᶠ (s -ᶠ h) +ᶠ (val a *ᶠ q +ᶠ val a *ᶠ (natᶠ 1 -ᶠ (s +ᶠ q) -ᶠ t)))} {y = val a *ᶠ (natᶠ 1 -ᶠ t)} (search rep depth 9) (search rep depth 9) tt in
+        let sum = ring ρ {x = val a *ᶠ h +ᶠ (val a *ᶠ (s -ᶠ h) +ᶠ (val a *ᶠ q +ᶠ val a *ᶠ fourth))} {y = val a *ᶠ (natᶠ 1 -ᶠ t)} (search rep depth 9) (search rep depth 9) tt in
         near-to sum (near-weaken (near-add (x1-ok .1) (near-add (x2-ok .1) (near-add (x3-times k (le-refl k)) (x4-ok .1)))) (unfold _+ᶠ_ in lit tt))
 
-    -- the last cell but one
-    case4 : Near (prefix moreL pen) (val a *ᶠ G pen (val lo) (val hi)) acrossError
-    case4 =
-        let c = pen in
-        let y : some c ≡ k = omega (arith, J, K) in
-        let p : prefix moreL c ≈ᶠ val (a ⊗ head) +ᶠ (val x2 +ᶠ (natᶠ k *ᶠ val x3 +ᶠ val x4)) = trans≈ (prefix-is c) (trans≈ (cong-add (pick-in first (suc c) (val (a ⊗ head)) (omega (arith, J, K))) (cong-add (pick-in (first + 1) (suc c) (val x2) (omega (arith, J, K)))
-        (cong-add (subst (λ (d : ℕ). natᶠ (some c) *ᶠ val x3 ≈ᶠ natᶠ d *ᶠ val x3) y (record { eq = refl }))
-        (cong-add (pick-in pen (suc c) (val x4) (le-refl (suc pen))) (pick-out (suc pen) (suc c) (val (a ⊗ tail)) (le-refl (suc pen))))))) (nothing (val (a ⊗ head)) (val x2) (natᶠ k *ᶠ val x3) (val x4))) in
-        let g = G-last pen (val lo) (val hi) r rW (over (val lo ∷ natᶠ (suc first) ∷ natᶠ pen ∷ []) (λ N n L B A. le-at N L A n (omega (arith, A .is, B .is, ap (λ (d : ℕ). d * N) J, at-lt N L B n below)))) beyond to in
-        near-same (sym≈ p) (near-to (mul-cong (val a) (sym≈ g)) (near-weaken all-but (lit tt)))
-      where
-        nothing : (x y z w : Fraction) → x +ᶠ (y +ᶠ (z +ᶠ (w +ᶠ natᶠ 0))) ≈ᶠ x +ᶠ (y +ᶠ (z +ᶠ w))
-        nothing x y z w = over (x ∷ y ∷ z ∷ w ∷ natᶠ 0 ∷ []) (λ N n X Y Z W O. eq-at N (search at) (search at) n (omega (arith, O .is)))
-
-    -- right of the piece
-    case5 : (c : ℕ) → suc pen ≤ c → Near (prefix moreL c) (val a *ᶠ G c (val lo) (val hi)) acrossError
-    case5 c m =
-        let y : some c ≡ k = omega (arith, J, K, m) in
-        let p : prefix moreL c ≈ᶠ val (a ⊗ head) +ᶠ (val x2 +ᶠ (natᶠ k *ᶠ val x3 +ᶠ val x4)) +ᶠ val (a ⊗ tail) = trans≈ (prefix-is c) (trans≈ (cong-add (pick-in first (suc c) (val (a ⊗ head)) (omega (arith, J, K, m))) (cong-add (pick-in (first + 1) (suc c) (val x2) (omega (arith, J, K, m)))
-        (cong-add (subst (λ (d : ℕ). natᶠ (some c) *ᶠ val x3 ≈ᶠ natᶠ d *ᶠ val x3) y (record { eq = refl }))
-        (cong-add (pick-in pen (suc c) (val x4) (omega (arith, m))) (pick-in (suc pen) (suc c) (val (a ⊗ tail)) (omega (arith, m))))))) (group (val (a ⊗ head)) (val x2) (natᶠ k *ᶠ val x3) (val x4) (val (a ⊗ tail)))) in
-        let g = trans≈ (mul-cong (val a) (left-of c m)) (mul-one (val a)) in
-        let ρ = val a ∷ t ∷ [] in
-        let R = reps ρ in
-        near-same (sym≈ p) (near-to (trans≈ (ring ρ {x = val a *ᶠ (natᶠ 1 -ᶠ t) +ᶠ val a *ᶠ t} {y = val a} (search rep depth 7) (search rep depth 7) tt) (sym≈ g)) (near-weaken (near-add all-but (x5-ok .1)) (unfold _+ᶠ_ in lit tt)))
-      where
-        group : (x y z w v : Fraction) → x +ᶠ (y +ᶠ (z +ᶠ (w +ᶠ v))) ≈ᶠ x +ᶠ (y +ᶠ (z +ᶠ w)) +ᶠ v
-        group x y z w v = over (x ∷ y ∷ z ∷ w ∷ v ∷ []) (λ N n X Y Z W U. eq-at N (search at) (search at) n (omega arith))
-
-    more-near : (c : ℕ) → Near (prefix moreL c) (val a *ᶠ G c (val lo) (val hi)) acrossError
-    more-near c = go (decLe first c) (decLe (suc first) c) (decLe pen c) (decLe (suc pen) c)
-      where
-        go : Dec (first ≤ c) → Dec (suc first ≤ c) → Dec (pen ≤ c) → Dec (suc pen ≤ c) → Near (prefix moreL c) (val a *ᶠ G c (val lo) (val hi)) acrossError
-        go (no f) x y z = case1 c (omega (arith, f))
-        go (yes m) (no f) y z = subst (λ (d : ℕ). Near (prefix moreL d) (val a *ᶠ G d (val lo) (val hi)) acrossError) (le-antisymm m (omega (arith, f))) case2
-        go (yes m) (yes x) (no f) z = case3 c (c - suc first) (omega (arith, x)) (omega (arith, f, x, J, K))
-        go (yes m) (yes x) (yes y) (no f) = subst (λ (d : ℕ). Near (prefix moreL d) (val a *ᶠ G d (val lo) (val hi)) acrossError) (le-antisymm y (omega (arith, f))) case4
-        go (yes m) (yes x) (yes y) (yes z) = case5 c z
-
-    pub more-adds : (w : ℕ) → Adds w 1 moreL (val lo) (val hi) (val a) acrossError acrossError
-    more-adds w = record {
-      fine = more-fine;
-      near = λ c m. more-near c;
-      size = more-size;
-      few = λ i. rising-once i first moreL more-rises;
-      from = λ i m n. rising-from i first moreL (least i m) more-rises;
-    }
+    pub more-adds : (w : ℕ) → Adds w 1 (entry first x1 ∷ moreRest) (val lo) (val hi) (val a) acrossError acrossError
+    more-adds = adds moreRest moreSum more-rises more-is more-but more-fine more-size
+        (λ c m n. at-between c (c - suc first) (omega (arith, m)) (omega (arith, m, n, piece .between, K)))
 
   -- ---- two cells
   module _ (Z : j ≡ 0) where
-    abbrev pub y2 : Float
+    abbrev y2 : Float
     y2 = a ⊗ (f1 ⊖ head ⊖ tail)
 
-    abbrev pub twoL : List Entry
-    twoL = entry first (a ⊗ head) ∷ entry (first + 1) y2 ∷ entry (suc pen) (a ⊗ tail) ∷ []
+    abbrev twoRest : List Entry
+    twoRest = entry (first + 1) y2 ∷ last
 
-    two-is : (c : ℕ) → prefix twoL c ≈ᶠ pick (ltb first (suc c)) (val (a ⊗ head)) +ᶠ (pick (ltb (first + 1) (suc c)) (val y2) +ᶠ pick (ltb (suc pen) (suc c)) (val (a ⊗ tail)))
-    unfolding prefix
-    two-is c = over (pick (ltb first (suc c)) (val (a ⊗ head)) ∷ pick (ltb (first + 1) (suc c)) (val y2) ∷ pick (ltb (suc pen) (suc c)) (val (a ⊗ tail)) ∷ natᶠ 0 ∷ []) (λ N n x y z o. eq-at N (search at) (search at) n (omega (arith, o .is)))
+    two-rises : Rising (suc first) twoRest
+    two-rises = (omega arith, (omega (arith, piece .between, Z), tt))
 
-    two-rises : Rising first twoL
-    two-rises = (le-refl first, (omega arith, (omega (arith, J, Z), tt)))
-
-    two-fine : Fine twoL
+    two-fine : Fine (entry first x1 ∷ twoRest)
     two-fine = (x1-ok .0, mul-fits binary32 a head, (x2-two .0, mul-fits binary32 a (f1 ⊖ head ⊖ tail), (x5-ok .0, mul-fits binary32 a tail, tt)))
 
     two-step : natᶠ 0 ≤ᶠ natᶠ 1 -ᶠ h -ᶠ t
@@ -637,79 +689,26 @@ module _ (lo hi : Float) (first pen j : ℕ) (a : Float) (Lo : Num lo (natᶠ 40
       at-eq N M O (rw Z (trans≈ (mul-comm r (natᶠ 0)) (zero-mul r))),
     )))
 
-    two-size : total twoL ≤ᶠ absᶠ (val a) +ᶠ acrossError
+    two-size : total (entry first x1 ∷ twoRest) ≤ᶠ absᶠ (val a) +ᶠ acrossError
     unfolding total
     two-size =
         let B = absᶠ (val a) in
+        let middle = natᶠ 1 -ᶠ h -ᶠ t in
         let ρ = B ∷ h ∷ t ∷ [] in
         let R = reps ρ in
         let sum = ring ρ {x = B *ᶠ h +ᶠ (B *ᶠ (natᶠ 1 -ᶠ h -ᶠ t) +ᶠ B *ᶠ t)} {y = B} (search rep depth 9) (search rep depth 9) tt in
-        let w = add-mono (size-of (val a) h (h-small .0) (x1-ok .1)) (add-mono (size-of (val a) (natᶠ 1 -ᶠ h -ᶠ t) two-step (x2-two .1)) (add-mono (size-of (val a) t (t-small .0) (x5-ok .1)) (refl≤ (natᶠ 0)))) in
-        trans w (over (B ∷ B *ᶠ h ∷ B *ᶠ (natᶠ 1 -ᶠ h -ᶠ t) ∷ B *ᶠ t ∷ endError ∷ middleError ∷ acrossError ∷ natᶠ 0 ∷ []) (λ N n b y1 y2 y5 e17 e16 e14 o.
+        let last-one = add-mono (size-of (val a) t (t-small .0) (x5-ok .1)) (refl≤ (natᶠ 0)) in
+        let w = add-mono (size-of (val a) h (h-small .0) (x1-ok .1)) (add-mono (size-of (val a) middle two-step (x2-two .1)) last-one) in
+        trans w (over (B ∷ B *ᶠ h ∷ B *ᶠ middle ∷ B *ᶠ t ∷ endError ∷ middleError ∷ acrossError ∷ natᶠ 0 ∷ []) (λ N n b y1 y2 y5 e17 e16 e14 o.
         le-at N (search at depth 9) (search at depth 9) n (omega (arith, o .is, e17 .is, e16 .is, e14 .is, at-eq N (add-at N y1 (add-at N y2 y5)) b sum))))
 
-    two1 : (c : ℕ) → c < first → Near (prefix twoL c) (val a *ᶠ G c (val lo) (val hi)) acrossError
-    two1 c m =
-        let g = trans≈ (mul-cong (val a) (right-of c m)) (trans≈ (mul-comm (val a) (natᶠ 0)) (zero-mul (val a))) in
-        let p : prefix twoL c ≈ᶠ natᶠ 0 = trans≈ (two-is c) (trans≈ (cong-add (pick-out first (suc c) (val (a ⊗ head)) m) (cong-add (pick-out (first + 1) (suc c) (val y2) (omega (arith, m))) (pick-out (suc pen) (suc c) (val (a ⊗ tail)) (omega (arith, m, J))))) nothing) in
-        near-same (sym≈ p) (near-to (sym≈ g) (near-weaken (near-refl (natᶠ 0)) (lit tt)))
-      where
-        nothing : natᶠ 0 +ᶠ (natᶠ 0 +ᶠ natᶠ 0) ≈ᶠ natᶠ 0
-        nothing = unfold _+ᶠ_ in lit≈ tt
-
-    two2 : Near (prefix twoL first) (val a *ᶠ G first (val lo) (val hi)) acrossError
-    two2 =
-        let c = first in
-        let p : prefix twoL c ≈ᶠ val (a ⊗ head) = trans≈ (two-is c) (trans≈ (cong-add (pick-in first (suc c) (val (a ⊗ head)) (le-refl (suc first))) (cong-add (pick-out (first + 1) (suc c) (val y2) (omega arith)) (pick-out (suc pen) (suc c) (val (a ⊗ tail)) (omega (arith, J))))) (nothing (val (a ⊗ head)))) in
-        near-same (sym≈ p) (near-to (mul-cong (val a) (sym≈ (G-first first (val lo) (val hi) r rW from below inside))) (near-weaken (x1-ok .1) (lit tt)))
-      where
-        nothing : (x : Fraction) → x +ᶠ (natᶠ 0 +ᶠ natᶠ 0) ≈ᶠ x
-        nothing x = over (x ∷ natᶠ 0 ∷ []) (λ N n X O. eq-at N (search at) X n (omega (arith, O .is)))
-
-    two-but : Near (val (a ⊗ head) +ᶠ val y2) (val a *ᶠ (natᶠ 1 -ᶠ t)) restError
+    two-but : Near (val x1 +ᶠ val y2) (val a *ᶠ (natᶠ 1 -ᶠ t)) restError
     two-but =
         let ρ = val a ∷ h ∷ t ∷ [] in
         let R = reps ρ in
         let sum = ring ρ {x = val a *ᶠ h +ᶠ val a *ᶠ (natᶠ 1 -ᶠ h -ᶠ t)} {y = val a *ᶠ (natᶠ 1 -ᶠ t)} (search rep depth 9) (search rep depth 9) tt in
         near-to sum (near-weaken (near-add (x1-ok .1) (x2-two .1)) (unfold _+ᶠ_ in lit tt))
 
-    two3 : Near (prefix twoL pen) (val a *ᶠ G pen (val lo) (val hi)) acrossError
-    two3 =
-        let c = pen in
-        let p : prefix twoL c ≈ᶠ val (a ⊗ head) +ᶠ val y2 = trans≈ (two-is c) (trans≈ (cong-add (pick-in first (suc c) (val (a ⊗ head)) (omega (arith, J))) (cong-add (pick-in (first + 1) (suc c) (val y2) (omega (arith, J))) (pick-out (suc pen) (suc c) (val (a ⊗ tail)) (le-refl (suc pen)))))
-        (nothing (val (a ⊗ head)) (val y2))) in
-        let g = G-last pen (val lo) (val hi) r rW (over (val lo ∷ natᶠ (suc first) ∷ natᶠ pen ∷ []) (λ N n L B A. le-at N L A n (omega (arith, A .is, B .is, ap (λ (d : ℕ). d * N) J, at-lt N L B n below)))) beyond to in
-        near-same (sym≈ p) (near-to (mul-cong (val a) (sym≈ g)) (near-weaken two-but (lit tt)))
-      where
-        nothing : (x y : Fraction) → x +ᶠ (y +ᶠ natᶠ 0) ≈ᶠ x +ᶠ y
-        nothing x y = over (x ∷ y ∷ natᶠ 0 ∷ []) (λ N n X Y O. eq-at N (search at) (search at) n (omega (arith, O .is)))
-
-    two4 : (c : ℕ) → suc pen ≤ c → Near (prefix twoL c) (val a *ᶠ G c (val lo) (val hi)) acrossError
-    two4 c m =
-        let p : prefix twoL c ≈ᶠ val (a ⊗ head) +ᶠ val y2 +ᶠ val (a ⊗ tail) = trans≈ (two-is c) (trans≈ (cong-add (pick-in first (suc c) (val (a ⊗ head)) (omega (arith, J, m))) (cong-add (pick-in (first + 1) (suc c) (val y2) (omega (arith, J, m))) (pick-in (suc pen) (suc c) (val (a ⊗ tail)) (omega (arith, m)))))
-        (group (val (a ⊗ head)) (val y2) (val (a ⊗ tail)))) in
-        let g = trans≈ (mul-cong (val a) (left-of c m)) (mul-one (val a)) in
-        let ρ = val a ∷ t ∷ [] in
-        let R = reps ρ in
-        near-same (sym≈ p) (near-to (trans≈ (ring ρ {x = val a *ᶠ (natᶠ 1 -ᶠ t) +ᶠ val a *ᶠ t} {y = val a} (search rep depth 7) (search rep depth 7) tt) (sym≈ g)) (near-weaken (near-add two-but (x5-ok .1)) (unfold _+ᶠ_ in lit tt)))
-      where
-        group : (x y z : Fraction) → x +ᶠ (y +ᶠ z) ≈ᶠ x +ᶠ y +ᶠ z
-        group x y z = over (x ∷ y ∷ z ∷ []) (λ N n X Y Z. eq-at N (search at) (search at) n (omega arith))
-
-    two-near : (c : ℕ) → Near (prefix twoL c) (val a *ᶠ G c (val lo) (val hi)) acrossError
-    two-near c = go (decLe first c) (decLe (suc first) c) (decLe (suc pen) c)
-      where
-        go : Dec (first ≤ c) → Dec (suc first ≤ c) → Dec (suc pen ≤ c) → Near (prefix twoL c) (val a *ᶠ G c (val lo) (val hi)) acrossError
-        go (no f) x z = two1 c (omega (arith, f))
-        go (yes m) (no f) z = subst (λ (d : ℕ). Near (prefix twoL d) (val a *ᶠ G d (val lo) (val hi)) acrossError) (le-antisymm m (omega (arith, f))) two2
-        go (yes m) (yes x) (no f) = subst (λ (d : ℕ). Near (prefix twoL d) (val a *ᶠ G d (val lo) (val hi)) acrossError) (omega (arith, J, Z, x, f)) two3
-        go (yes m) (yes x) (yes z) = two4 c z
-
-    pub two-adds : (w : ℕ) → Adds w 1 twoL (val lo) (val hi) (val a) acrossError acrossError
-    two-adds w = record {
-      fine = two-fine;
-      near = λ c m. two-near c;
-      size = two-size;
-      few = λ i. rising-once i first twoL two-rises;
-      from = λ i m n. rising-from i first twoL (least i m) two-rises;
-    }
+    pub two-adds : (w : ℕ) → Adds w 1 (entry first x1 ∷ twoRest) (val lo) (val hi) (val a) acrossError acrossError
+    two-adds = adds twoRest (val y2) two-rises (λ c m. prefix-in (entry (first + 1) y2) last c (omega (arith, piece .between, m))) two-but two-fine two-size
+        (λ c m n. absurd (omega (arith, m, n, piece .between, Z)))

@@ -22,16 +22,17 @@ use Rattle.fraction.proofs.Clamp.{min-at, max-at, max-ge-right}
 use Rattle.rounding.specs.Value.{signed, signedᶠ, val}
 use Rattle.rounding.specs.Rounding.{Is}
 use Rattle.rounding.proofs.Exactly.{is-same, round-is-exact}
-use Rattle.words.specs.Words.{beyond}
+use Rattle.word_list.specs.Words.{beyond}
 use Rattle.winding.specs.Winding.{exactCoordinate, crosses}
 use Rattle.winding.proofs.Crosses.{crosses-yes, crosses-do}
 use Rattle.float.specs.Ops.{_⊖_, _⊘_, f0, f1, f-1}
 use Rattle.float.specs.Simple.{maxOf}
 use Rattle.float.specs.Whole.{columnOf, ofWhole}
 use Rattle.edge.specs.declared.Edge.{Edge}
-use Rattle.edge.specs.Edges.{subpixels, coordinateOf, slopedOf, edgeOf, startRow}
+use Rattle.edge.specs.Edges.{slopedOf, edgeBetween, startRow}
+use Rattle.contour.specs.Contours.{subpixels, coordinateOf}
 use Rattle.bound.proofs.Numbers.{Exact, zero-is, whole-is, lt-yes, lt-no, lt-do, le-yes, le-no, eq-yes, eq-do, max-is, column-is}
-use Rattle.bound.proofs.Edges.{WordEdge, NearEdge, exactOf, any, activeIn, isActive}
+use Rattle.bound.proofs.Edges.{WordEdge, EdgeInLimit, exactOf, any, activeIn, isActive}
 
 -- ---- a coordinate word in cells: exact
 signed-is : (s : Bool) (n : ℕ) → n < 2 ^ 24 → Is (signedᶠ s n 1 (lit≤ tt)) (round binary32 s n 1)
@@ -111,8 +112,10 @@ starts A B y a h b top =
     (over (A ∷ O ∷ natᶠ 8192 ∷ val v ∷ []) (λ N n X Z U M. lt-at N M U (omega (arith, n, Z .is, U .is, at-eq N M (max-at N n X Z) (E .eq), at-lt N X U n top)))) in
     record {
       under = over (A ∷ O ∷ natᶠ (suc (columnOf v)) ∷ val v ∷ []) (λ N n X Z S M. lt-at N X S (omega (arith, at-eq N M (max-at N n X Z) (E .eq), at-lt N M S n (F .1))));
-      least = λ m k. le-of-suc-le-suc (nat-lt (over (A ∷ O ∷ natᶠ (columnOf v) ∷ natᶠ (suc m) ∷ val v ∷ []) (λ N n X Z S K M. lt-at N S K (omega (arith, n, Z .is, K .is, at-eq N M (max-at N n X Z) (E .eq), at-le N S M (F .0), at-lt N X K n k)))));
-      reach = over (A ∷ O ∷ natᶠ (columnOf v) ∷ B ∷ val v ∷ []) (λ N n X Z S K M. lt-at N S K (omega (arith, at-eq N M (max-at N n X Z) (E .eq), at-le N S M (F .0), at-lt N X K n h, at-lt N Z K n b)));
+      least = λ m k. le-of-suc-le-suc (nat-lt (over (A ∷ O ∷ natᶠ (columnOf v) ∷ natᶠ (suc m) ∷ val v ∷ []) (λ N n X Z S K M.
+          lt-at N S K (omega (arith, n, Z .is, K .is, at-eq N M (max-at N n X Z) (E .eq), at-le N S M (F .0), at-lt N X K n k)))));
+      reach = over (A ∷ O ∷ natᶠ (columnOf v) ∷ B ∷ val v ∷ []) (λ N n X Z S K M.
+          lt-at N S K (omega (arith, at-eq N M (max-at N n X Z) (E .eq), at-le N S M (F .0), at-lt N X K n h, at-lt N Z K n b)));
     }
 
 -- ---- active: it has started, and its bottom lies below the row's top
@@ -123,9 +126,11 @@ module _ (A B : Fraction) (e : Edge) (S : Starts A B (startRow e)) (b : Exact B 
   active-yes : (row : ℕ) → row ≤ 4096 → T (activeIn row e) → (startRow e ≤ row) × (natᶠ row <ᶠ B)
   active-yes zero l t = let z = eqb→eq (startRow e) 0 t in (omega (arith, z), le-lt (nat-le {m = 0} {n = startRow e} (omega arith)) (S .reach))
   active-yes (suc row) l t =
-      go (eqb (startRow e) (suc row)) (eqb→eq (startRow e) (suc row)) (activeIn row e) (active-yes row (omega arith)) (lt (ofWhole (suc row)) (e .bottom)) (lt-yes (whole-is (suc row) (omega arith)) b) t
+      let reaches = lt-yes (whole-is (suc row) (omega arith)) b in
+      go (eqb (startRow e) (suc row)) (eqb→eq (startRow e) (suc row)) (activeIn row e) (active-yes row (omega arith)) (lt (ofWhole (suc row)) (e .bottom)) reaches t
     where
-      go : (x : Bool) → (T x → startRow e ≡ suc row) → (y : Bool) → (T y → (startRow e ≤ row) × (natᶠ row <ᶠ B)) → (z : Bool) → (T z → natᶠ (suc row) <ᶠ B) → T (cond x true (y && z)) → (startRow e ≤ suc row) × (natᶠ (suc row) <ᶠ B)
+      go : (x : Bool) → (T x → startRow e ≡ suc row) → (y : Bool) → (T y → (startRow e ≤ row) × (natᶠ row <ᶠ B)) → (z : Bool) → (T z → natᶠ (suc row) <ᶠ B)
+          → T (cond x true (y && z)) → (startRow e ≤ suc row) × (natᶠ (suc row) <ᶠ B)
       go true f y g z h t = let q = f tt in (omega (arith, q), le-lt (nat-le {m = suc row} {n = startRow e} (omega (arith, q))) (S .reach))
       go false f true g true h t = (omega (arith, (g tt) .0), h tt)
       go false f true g false h t = absurd t
@@ -134,7 +139,9 @@ module _ (A B : Fraction) (e : Edge) (S : Starts A B (startRow e)) (b : Exact B 
   active-do : (row : ℕ) → row ≤ 4096 → startRow e ≤ row → natᶠ row <ᶠ B → T (activeIn row e)
   active-do zero l h k = T-eqb (startRow e) 0 (omega arith)
   active-do (suc row) l h k =
-      go (eqb (startRow e) (suc row)) apart (activeIn row e) (λ q. active-do row (omega arith) q (le-lt (nat-le {m = row} {n = suc row} (omega arith)) k)) (lt (ofWhole (suc row)) (e .bottom)) (lt-do (whole-is (suc row) (omega arith)) b k)
+      let above = le-lt (nat-le {m = row} {n = suc row} (omega arith)) k in
+      let reaches = lt-do (whole-is (suc row) (omega arith)) b k in
+      go (eqb (startRow e) (suc row)) apart (activeIn row e) (λ q. active-do row (omega arith) q above) (lt (ofWhole (suc row)) (e .bottom)) reaches
     where
       apart : T (not (eqb (startRow e) (suc row))) → startRow e ≤ row
       apart n = step (decLe (startRow e) row)
@@ -197,7 +204,7 @@ module _ (h row : ℕ) (xa ya xb yb d : Float) (A B : Fraction) (H : h ≤ 4096)
       (λ f. f p q)
 
 -- ---- THE ACTIVE EDGES
-module _ (h row : ℕ) (r : WordEdge) (H : h ≤ 4096) (l : row < h) (m : NearEdge r) where
+module _ (h row : ℕ) (r : WordEdge) (H : h ≤ 4096) (l : row < h) (m : EdgeInLimit r) where
   abbrev x0 : Float
   x0 = coordinateOf (r .«from» .x)
 
@@ -260,7 +267,7 @@ module _ (h row : ℕ) (r : WordEdge) (H : h ≤ 4096) (l : row < h) (m : NearEd
       go (inr k) = k
 
   pub active-is : isActive h row r ≡ crosses (exactOf r) row
-  unfolding edgeOf
+  unfolding edgeBetween
   active-is = go (eq y0 y1) (eq-yes a b) (λ t e. T-not (eq y0 y1) t (eq-do a b e)) (lt y0 y1) (lt-yes a b) (lt-no a b)
     where
       go : (x : Bool) → (T x → A ≈ᶠ B) → (T (not x) → ¬ (A ≈ᶠ B)) → (y : Bool) → (T y → A <ᶠ B) → (T (not y) → B ≤ᶠ A)

@@ -1,12 +1,13 @@
--- What a piece of an edge adds to a row, and the constants of the proof, each named here once. docs/BOUND.md has them in bytes. Definitions only.
+-- What a piece of an edge adds to a row, and the constants of the proof, each named here once. docs/BOUND.md has them
+-- in bytes. Definitions only.
 use Prim.Native.Nat.{ℕ, _≤_, _<_}
 use mathlib.Core.List.{List}
 use Rattle.fraction.specs.Fraction.{Fraction, _≤ᶠ_, natᶠ, _/2^_, _+ᶠ_, _*ᶠ_, absᶠ, Near}
 use Rattle.winding.proofs.MeanOf.{G}
 use Rattle.bound.proofs.Entries.{Entry, prefix, total, count, here, Fine, From}
 
--- A piece from x to y with the signed height a adds L to a row `width` wide: at most m entries in a cell, off by at most e in each cell and by d in the sum of sizes, and
--- nothing left of a column that both ends are right of
+-- A piece from x to y with the signed height a adds L to a row `width` wide: at most m entries in a cell, off by at
+-- most e in each cell and by d in the sum of sizes, and nothing left of a column that both ends are right of
 pub record Adds (width m : ℕ) (L : List Entry) (x y a e d : Fraction) : Type 0 where
   pub fine : Fine L
   pub near : (c : ℕ) → c < width → Near (prefix L c) (a *ᶠ G c x y) e
@@ -28,7 +29,8 @@ quotientError = 1 /2^ 22
 abbrev pub cutError : Fraction
 cutError = 1 /2^ 21
 
--- the errors of a piece across cells, of one within the row, of one that is cut at the right, and of any; and by how much the sizes pass the height
+-- the errors of a piece across cells, of one within the row, of one that is cut at the right, and of any; and by how
+-- much the sizes pass the height
 abbrev pub acrossError : Fraction
 acrossError = 1 /2^ 14
 
@@ -50,7 +52,8 @@ spanError = 129 /2^ 18
 abbrev pub spanExcess : Fraction
 spanExcess = 129 /2^ 17
 
--- ---- an edge: where it is at a height, and its entries against its exact part; the sum of its entries' sizes is at most `mass`
+-- ---- an edge: where it is at a height, and its entries against its exact part; the sum of its entries' sizes is at
+-- most `mass`
 abbrev pub placeError : Fraction
 placeError = 11 /2^ 13
 

@@ -1,7 +1,7 @@
 -- A group's byte in a cell, against 255 times the rule's share of the exact winding. Assumes nothing.
 use mathlib.Core.Path.{_≡_, sym, subst}
 use mathlib.Core.Logic.{inl, inr}
-use mathlib.Core.List.{[], _∷_}
+use mathlib.Core.List.{[], _∷_, _++_}
 use mathlib.Core.Bool.{Bool, true, false}
 use Prim.Native.Nat.{ℕ, _+_, _≤_}
 use native.Mathlib.Nat.{eq-zero-or-pos}
@@ -22,10 +22,11 @@ use Rattle.rounding.proofs.Ops.{mul-rounds, add-rounds}
 use Rattle.float.specs.Ops.{_⊕_, _⊗_, f0, f½}
 use Rattle.float.specs.Whole.{byteOf}
 use Rattle.float.proofs.CastBelief.{byte-below}
-use Rattle.row.specs.Sweep.{f255, coveredOf, shareOf}
+use Rattle.sweep.specs.Bytes.{f255, coveredOf, shareOf}
 use Rattle.winding.specs.Winding.{nonZeroShare, modulo2, evenOddShare}
 use Rattle.bound.proofs.Adds.{windingError}
 use Rattle.bound.proofs.Numbers.{Exact, zero-is, half-is, f255-is}
+use Rattle.bound.proofs.RowSum.{Winds}
 use Rattle.bound.proofs.Share.{shareBy, share-near, share-range, share-is}
 
 -- ---- 255 times a share, and a half, cut to a whole number
@@ -41,7 +42,8 @@ module _ (eo : Bool) (w : Float) (p : T (finite w)) (q : T (fits binary32 w)) wh
   low = mul-nonneg (lit tt) ((share-range eo (val w)) .0)
 
   high : natᶠ 255 *ᶠ shareBy eo (val w) ≤ᶠ natᶠ 255
-  high = over (shareBy eo (val w) ∷ natᶠ 255 *ᶠ shareBy eo (val w) ∷ natᶠ 1 ∷ natᶠ 255 ∷ []) (λ N n A B I C. le-at N B C n (omega (arith, I .is, C .is, scale-at N (natᶠ 255) A B, at-le N A I ((share-range eo (val w)) .1))))
+  high = over (shareBy eo (val w) ∷ natᶠ 255 *ᶠ shareBy eo (val w) ∷ natᶠ 1 ∷ natᶠ 255 ∷ []) (λ N n A B I C.
+      le-at N B C n (omega (arith, I .is, C .is, scale-at N (natᶠ 255) A B, at-le N A I ((share-range eo (val w)) .1))))
 
   between : Within (natᶠ 255 *ᶠ shareBy eo (val w)) (natᶠ 255)
   between = within-weaken (within-self low) high
@@ -65,7 +67,10 @@ module _ (eo : Bool) (w : Float) (p : T (finite w)) (q : T (fits binary32 w)) wh
       let a = at-le N O A times-low in
       let b = at-le N A B times-high in
       let c = at-eq N H I (half-is .eq) in
-      record { lo = le-at N (search at) (search at) n (omega (arith, O .is, I .is, B .is, C .is, a, b, c)); hi = le-at N (search at) (search at) n (omega (arith, O .is, I .is, B .is, C .is, a, b, c)) })
+      record {
+        lo = le-at N (search at) (search at) n (omega (arith, O .is, I .is, B .is, C .is, a, b, c));
+        hi = le-at N (search at) (search at) n (omega (arith, O .is, I .is, B .is, C .is, a, b, c));
+      })
 
   A : Rounds binary32 (natᶠ 0) (val (shareOf eo w ⊗ f255) +ᶠ val f½) (shareOf eo w ⊗ f255 ⊕ f½)
   A = add-rounds binary32 (shareOf eo w ⊗ f255) f½ (R .fine) (half-is .fine) (mul-fits binary32 (shareOf eo w) f255) (half-is .held) (within-weaken half-within (lit tt))
@@ -84,12 +89,21 @@ module _ (eo : Bool) (w : Float) (p : T (finite w)) (q : T (fits binary32 w)) wh
   pub byte-near : Near (natᶠ (coveredOf eo w)) (natᶠ 255 *ᶠ shareBy eo (val w)) (1 /2^ 1 +ᶠ 1 /2^ 15)
   unfolding coveredOf
   byte-near =
-      let f = byte-below (shareOf eo w ⊗ f255 ⊕ f½) (A .fine) sum-low sum-high in
-      over (natᶠ (byteOf (shareOf eo w ⊗ f255 ⊕ f½)) ∷ val (shareOf eo w ⊗ f255 ⊕ f½) ∷ val (shareOf eo w ⊗ f255) ∷ val f½ ∷ natᶠ 255 *ᶠ shareBy eo (val w) ∷ 1 /2^ 1 ∷ 1 /2^ 15 ∷ 1 /2^ 16 ∷ 255 /2^ 24 ∷ 1 /2^ 40 ∷ natᶠ 1 ∷ natᶠ (byteOf (shareOf eo w ⊗ f255 ⊕ f½) + 1) ∷ []) (λ N n B Z P H X I E F G J O Q.
+      let z = shareOf eo w ⊗ f255 ⊕ f½ in
+      let f = byte-below z (A .fine) sum-low sum-high in
+      let values = natᶠ (byteOf z) ∷ val z ∷ val (shareOf eo w ⊗ f255) ∷ val f½ ∷ natᶠ 255 *ᶠ shareBy eo (val w) ∷ [] in
+      let errors = 1 /2^ 1 ∷ 1 /2^ 15 ∷ 1 /2^ 16 ∷ 255 /2^ 24 ∷ 1 /2^ 40 ∷ natᶠ 1 ∷ natᶠ (byteOf z + 1) ∷ [] in
+      over (values ++ errors) (λ N n B Z P H X I E F G J O Q.
       let h = at-eq N H I (half-is .eq) in
       record {
-        lo = le-at N (search at) (search at) n (omega (arith, I .is, E .is, F .is, G .is, J .is, O .is, h, B .is, Q .is, at-lt N Z Q n (f .1), at-le N (search at) (search at) (near-half .lo), at-le N (search at) (search at) (near-times .lo)));
-        hi = le-at N (search at) (search at) n (omega (arith, I .is, E .is, F .is, G .is, J .is, O .is, h, at-le N B Z (f .0), at-le N (search at) (search at) (near-half .hi), at-le N (search at) (search at) (near-times .hi)));
+        lo =
+            let p = at-le N (search at) (search at) (near-half .lo) in
+            let q = at-le N (search at) (search at) (near-times .lo) in
+            le-at N (search at) (search at) n (omega (arith, I .is, E .is, F .is, G .is, J .is, O .is, h, B .is, Q .is, p, q, at-lt N Z Q n (f .1)));
+        hi =
+            let p = at-le N (search at) (search at) (near-half .hi) in
+            let q = at-le N (search at) (search at) (near-times .hi) in
+            le-at N (search at) (search at) n (omega (arith, I .is, E .is, F .is, G .is, J .is, O .is, h, p, q, at-le N B Z (f .0)));
       })
 
 share-zero : (eo : Bool) → shareBy eo (natᶠ 0) ≈ᶠ natᶠ 0
@@ -98,14 +112,17 @@ share-zero true = lit≈ tt
 share-zero false = lit≈ tt
 
 -- ---- A GROUP IN A CELL: k edges count, the winding w is near the exact X
-module _ (eo : Bool) (w : Float) (p : T (finite w)) (q : T (fits binary32 w)) (X : Fraction) (k : ℕ) (near : Near (val w) X (natᶠ k *ᶠ windingError)) (small : Within (val w) (natᶠ k *ᶠ natᶠ 2)) where
+module _ (eo : Bool) {w : Float} {X : Fraction} {k : ℕ} (winds : Winds w X k) where
   folded : Near (shareBy eo (val w)) (shareBy eo X) (natᶠ k *ᶠ windingError)
-  folded = share-near eo near
+  folded = share-near eo (winds .near)
 
   some : 1 ≤ k → Near (natᶠ (coveredOf eo w)) (natᶠ 255 *ᶠ shareBy eo X) (natᶠ k +ᶠ 1 /2^ 1)
   some h =
-      let b = byte-near eo w p q in
-      over (natᶠ (coveredOf eo w) ∷ shareBy eo (val w) ∷ shareBy eo X ∷ natᶠ 255 *ᶠ shareBy eo (val w) ∷ natᶠ 255 *ᶠ shareBy eo X ∷ natᶠ k ∷ natᶠ k *ᶠ windingError ∷ windingError *ᶠ natᶠ k ∷ 1 /2^ 1 ∷ 1 /2^ 15 ∷ natᶠ 1 ∷ []) (λ N n B F G F' G' K E E' I J O.
+      let b = byte-near eo w (winds .fine) (winds .held) in
+      let x = shareBy eo (val w) in
+      let y = shareBy eo X in
+      over (natᶠ (coveredOf eo w) ∷ x ∷ y ∷ natᶠ 255 *ᶠ x ∷ natᶠ 255 *ᶠ y ∷ natᶠ k ∷ natᶠ k *ᶠ windingError ∷ windingError *ᶠ natᶠ k ∷ 1 /2^ 1 ∷ 1 /2^ 15 ∷ natᶠ 1 ∷ [])
+      (λ N n B F G F' G' K E E' I J O.
       let f = scale-at N (natᶠ 255) F F' in
       let g = scale-at N (natᶠ 255) G G' in
       let c = at-eq N E E' (mul-comm (natᶠ k) (windingError)) in
@@ -122,14 +139,17 @@ module _ (eo : Bool) (w : Float) (p : T (finite w)) (q : T (fits binary32 w)) (X
       let z = subst (λ (t : ℕ). natᶠ t *ᶠ natᶠ 2 ≈ᶠ natᶠ 0) (sym h) (zero-mul (natᶠ 2)) in
       let at0 : Near (val w) (natᶠ 0) (natᶠ 0) = over (val w ∷ natᶠ k *ᶠ natᶠ 2 ∷ natᶠ 0 ∷ []) (λ N n W K O.
       let k = at-eq N K O z in
-      record { lo = le-at N (search at) (search at) n (omega (arith, O .is, k, at-le N (neg-at N K) W (small .lo))); hi = le-at N (search at) (search at) n (omega (arith, O .is, k, at-le N W K (small .hi))) }) in
+      record {
+        lo = le-at N (search at) (search at) n (omega (arith, O .is, k, at-le N (neg-at N K) W (winds .size .lo)));
+        hi = le-at N (search at) (search at) n (omega (arith, O .is, k, at-le N W K (winds .size .hi)));
+      }) in
       near-to (share-zero eo) (share-near eo at0)
 
   -- and so is the byte
   pub group-none : k ≡ 0 → coveredOf eo w ≡ 0
   group-none h =
       let f = still h in
-      let b = byte-near eo w p q in
+      let b = byte-near eo w (winds .fine) (winds .held) in
       let g : natᶠ (coveredOf eo w) ≤ᶠ 3 /2^ 2 = over (natᶠ (coveredOf eo w) ∷ shareBy eo (val w) ∷ natᶠ 255 *ᶠ shareBy eo (val w) ∷ 1 /2^ 1 ∷ 1 /2^ 15 ∷ 3 /2^ 2 ∷ natᶠ 0 ∷ []) (λ N n B F F' I J Q O.
       le-at N B Q n (omega (arith, O .is, I .is, J .is, Q .is, scale-at N (natᶠ 255) F F', at-le N (search at) (search at) (f .hi), at-le N (search at) (search at) (b .hi)))) in
       omega (arith, g .le)
@@ -144,9 +164,11 @@ module _ (eo : Bool) (w : Float) (p : T (finite w)) (q : T (fits binary32 w)) (X
       let e = at-eq N E O z in
       let c = at-eq N B O b in
       let k0 = at-le N O K (nat-le {m = 0} {n = k} (omega arith)) in
+      let f1 = at-le N (search at) (search at) (f .lo) in
+      let f2 = at-le N (search at) (search at) (f .hi) in
       record {
-        lo = le-at N (search at) (search at) n (omega (arith, O .is, I .is, g, e, c, k0, at-le N (search at) (search at) (folded .lo), at-le N (search at) (search at) (f .lo), at-le N (search at) (search at) (f .hi)));
-        hi = le-at N (search at) (search at) n (omega (arith, O .is, I .is, g, e, c, k0, at-le N (search at) (search at) (folded .hi), at-le N (search at) (search at) (f .lo), at-le N (search at) (search at) (f .hi)));
+        lo = le-at N (search at) (search at) n (omega (arith, O .is, I .is, g, e, c, k0, f1, f2, at-le N (search at) (search at) (folded .lo)));
+        hi = le-at N (search at) (search at) n (omega (arith, O .is, I .is, g, e, c, k0, f1, f2, at-le N (search at) (search at) (folded .hi)));
       })
 
   pub group-near : Near (natᶠ (coveredOf eo w)) (natᶠ 255 *ᶠ shareBy eo X) (natᶠ k +ᶠ 1 /2^ 1)

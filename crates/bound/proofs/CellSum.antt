@@ -1,7 +1,7 @@
--- What one cell holds after its entries, against their exact sum. Each addition is rounded; n entries of a size S together are off by at most 2 ^ -23 of n * S.
--- Assumes nothing.
+-- What one cell holds after its entries, against their exact sum. Each addition is rounded; n entries of a size S
+-- together are off by at most 2 ^ -23 of n * S. Assumes nothing.
 use mathlib.Core.Path.{_≡_, subst}
-use mathlib.Core.List.{List, [], _∷_}
+use mathlib.Core.List.{List, [], _∷_, _++_}
 use mathlib.Core.Bool.{Bool, true, false, not, cond}
 use Prim.Native.Nat.{ℕ, suc, _+_, _^_, _≤_}
 use native.Mathlib.Omega.{arith}
@@ -55,9 +55,12 @@ module _ (a f : Float) (s S : Fraction) (n : ℕ) (h : Holds a s S n) (p : T (fi
   size-more : Within (s +ᶠ val f) (S +ᶠ absᶠ (val f))
   size-more = within-add (h .size) (within-abs (val f))
 
+  abbrev sums : List Fraction
+  sums = val a ∷ val f ∷ s ∷ S ∷ absᶠ (val f) ∷ natᶠ n *ᶠ S ∷ natᶠ n *ᶠ (S +ᶠ absᶠ (val f)) ∷ []
+
   -- the exact sum before the rounding is at most twice the sizes
   wide : Within (val a +ᶠ val f) (S +ᶠ absᶠ (val f) +ᶠ (S +ᶠ absᶠ (val f)))
-  wide = over (val a ∷ val f ∷ s ∷ S ∷ absᶠ (val f) ∷ natᶠ n *ᶠ S ∷ natᶠ n *ᶠ (S +ᶠ absᶠ (val f)) ∷ natᶠ 4096 *ᶠ (S +ᶠ absᶠ (val f)) ∷ entryPart *ᶠ (natᶠ n *ᶠ S) ∷ natᶠ 0 ∷ []) (λ N m A f' s' X Y P P' M E O.
+  wide = over (sums ++ (natᶠ 4096 *ᶠ (S +ᶠ absᶠ (val f)) ∷ entryPart *ᶠ (natᶠ n *ᶠ S) ∷ natᶠ 0 ∷ [])) (λ N m A f' s' X Y P P' M E O.
       let e = scale-at N entryPart P E in
       let k = scale-at N (natᶠ 4096) (add-at N X Y) M in
       let g = at-le N P P' grown in
@@ -69,17 +72,19 @@ module _ (a f : Float) (s S : Fraction) (n : ℕ) (h : Holds a s S n) (p : T (fi
       })
 
   small : S +ᶠ absᶠ (val f) +ᶠ (S +ᶠ absᶠ (val f)) ≤ᶠ natᶠ (2 ^ emax binary32)
-  small = trans {y = natᶠ (2 ^ 21)} (over (S ∷ absᶠ (val f) ∷ natᶠ (2 ^ 20) ∷ natᶠ (2 ^ 21) ∷ []) (λ N m X Y T B. le-at N (search at) (search at) m (omega (arith, T .is, B .is, at-le N (add-at N X Y) T top)))) (lit tt)
+  small = trans {y = natᶠ (2 ^ 21)} (over (S ∷ absᶠ (val f) ∷ natᶠ (2 ^ 20) ∷ natᶠ (2 ^ 21) ∷ []) (λ N m X Y T B.
+      le-at N (search at) (search at) m (omega (arith, T .is, B .is, at-le N (add-at N X Y) T top)))) (lit tt)
 
   pub one-entry : Holds (a ⊕ f) (s +ᶠ val f) (S +ᶠ absᶠ (val f)) (suc n)
   one-entry =
       let R = add-rounds binary32 a f (h .fine) p (h .held) q (within-weaken wide small) in
       let r = sum-near R wide in
+      let more = natᶠ (suc n) *ᶠ (S +ᶠ absᶠ (val f)) in
       record {
         fine = R .fine;
         held = add-fits binary32 a f;
         size = size-more;
-        near = over (val (a ⊕ f) ∷ val a ∷ val f ∷ s ∷ S ∷ absᶠ (val f) ∷ natᶠ n *ᶠ S ∷ natᶠ n *ᶠ (S +ᶠ absᶠ (val f)) ∷ natᶠ (suc n) *ᶠ (S +ᶠ absᶠ (val f)) ∷ entryPart *ᶠ (natᶠ n *ᶠ S) ∷ entryPart *ᶠ (natᶠ (suc n) *ᶠ (S +ᶠ absᶠ (val f))) ∷ roundoff binary32 *ᶠ (S +ᶠ absᶠ (val f) +ᶠ (S +ᶠ absᶠ (val f))) ∷ [])
+        near = over (val (a ⊕ f) ∷ sums ++ (more ∷ entryPart *ᶠ (natᶠ n *ᶠ S) ∷ entryPart *ᶠ more ∷ roundoff binary32 *ᶠ (S +ᶠ absᶠ (val f) +ᶠ (S +ᶠ absᶠ (val f))) ∷ []))
             (λ N m Z A f' s' X Y P P' Q E E' U.
             let e = scale-at N entryPart P E in
             let e' = scale-at N entryPart Q E' in
@@ -101,11 +106,13 @@ module _ (a f : Float) (s S : Fraction) (n : ℕ) (h : Holds a s S n) (z : val f
       let grown = mul-mono {x = natᶠ n} (nat-le {m = 0} {n = n} (omega arith)) up in
       let j = one-more n (S +ᶠ absᶠ (val f)) in
       let S0 = within-nonneg (h .size) in
+      let more = natᶠ (suc n) *ᶠ (S +ᶠ absᶠ (val f)) in
+      let sums = val a ∷ val f ∷ s ∷ S ∷ absᶠ (val f) ∷ natᶠ n *ᶠ S ∷ natᶠ n *ᶠ (S +ᶠ absᶠ (val f)) ∷ more ∷ [] in
       record {
         fine = h .fine;
         held = h .held;
         size = within-add (h .size) (within-abs (val f));
-        near = over (val a ∷ val f ∷ s ∷ S ∷ absᶠ (val f) ∷ natᶠ n *ᶠ S ∷ natᶠ n *ᶠ (S +ᶠ absᶠ (val f)) ∷ natᶠ (suc n) *ᶠ (S +ᶠ absᶠ (val f)) ∷ entryPart *ᶠ (natᶠ n *ᶠ S) ∷ entryPart *ᶠ (natᶠ (suc n) *ᶠ (S +ᶠ absᶠ (val f))) ∷ natᶠ 0 ∷ [])
+        near = over (sums ++ (entryPart *ᶠ (natᶠ n *ᶠ S) ∷ entryPart *ᶠ more ∷ natᶠ 0 ∷ []))
             (λ N m A f' s' X Y P P' Q E E' O.
             let e = scale-at N entryPart P E in
             let e' = scale-at N entryPart Q E' in

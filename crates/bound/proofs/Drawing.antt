@@ -12,14 +12,14 @@ use Rattle.fraction.proofs.Order.{of-eq, sym≈, trans≈, mul-cong}
 use Rattle.fraction.proofs.Near.{near-weaken, near-same, near-add, near-refl}
 use Rattle.fraction.proofs.Clamp.{min-at, min-left, min-right, near-min}
 use Rattle.rounding.proofs.Round.{near-to}
-use Rattle.words.specs.Words.{Group, evenOdd}
+use Rattle.word_list.specs.Words.{Group, evenOdd}
 use Rattle.winding.specs.Winding.{exactEdges, meanWinding, groupShare}
 use Rattle.winding.specs.Drawn.{sumOfShares, drawnShare}
-use Rattle.row.specs.Sweep.{addBytes}
-use Rattle.coverage.specs.declared.Size.{Size}
+use Rattle.sweep.specs.Bytes.{addBytes}
+use Rattle.cells.specs.declared.Size.{Size}
 use Rattle.coverage.specs.Drawing.{groupRow, addGroups, drawingRow}
-use Rattle.coverage.proofs.Rows.{length-added}
-use Rattle.bound.specs.Counted.{countAt, allowedAt}
+use Rattle.coverage.proofs.Places.{length-added}
+use Rattle.bound.specs.Counted.{countAt, allowedDifferenceAt}
 use Rattle.bound.proofs.Entries.{none-plus, plus-none}
 use Rattle.bound.proofs.Share.{share-range, near-nonneg}
 use Rattle.bound.proofs.GroupRow.{GroupOk}
@@ -88,7 +88,7 @@ module _ (size : Size) (row : ℕ) where
   min-cong {x} {y} e = over (x ∷ y ∷ natᶠ 1 ∷ []) (λ N n X Y I. eq-at N (min-at N n X I) (min-at N n Y I) n (omega (arith, at-eq N X Y e)))
 
   cell-near : (gs : List Group) (c v : ℕ) (σ A : Fraction) → c < size .width → GroupsOk size row gs → Near (natᶠ v) (natᶠ 255 *ᶠ minᶠ σ (natᶠ 1)) A
-      → Near (natᶠ (cell gs c v)) (natᶠ 255 *ᶠ minᶠ (σ +ᶠ sumOfShares gs c row) (natᶠ 1)) (A +ᶠ allowedAt gs c row)
+      → Near (natᶠ (cell gs c v)) (natᶠ 255 *ᶠ minᶠ (σ +ᶠ sumOfShares gs c row) (natᶠ 1)) (A +ᶠ allowedDifferenceAt gs c row)
   unfolding sumOfShares
   cell-near [] c v σ A l k n = near-weaken (near-to (mul-cong (natᶠ 255) (min-cong (sym≈ (plus-none σ)))) n) (of-eq (sym≈ (plus-none A)))
   cell-near (g ∷ gs) c v σ A l k n =
@@ -97,12 +97,13 @@ module _ (size : Size) (row : ℕ) where
       let B = natᶠ (countAt (exactEdges (g .contours)) c row) +ᶠ 1 /2^ 1 in
       let sum = near-add n (k .0 .near c l) in
       let capped = near-same (nat-min v b) (near-to (cap σ s (share-nonneg g c)) (near-min (natᶠ 255) (near-nonneg sum) sum)) in
-      near-weaken (near-to (mul-cong (natᶠ 255) (min-cong (assoc σ s (sumOfShares gs c row)))) (cell-near gs c (min (v + b) 255) (σ +ᶠ s) (A +ᶠ B) l (k .1) capped)) (of-eq (assoc A B (allowedAt gs c row)))
+      let rest = cell-near gs c (min (v + b) 255) (σ +ᶠ s) (A +ᶠ B) l (k .1) capped in
+      near-weaken (near-to (mul-cong (natᶠ 255) (min-cong (assoc σ s (sumOfShares gs c row)))) rest) (of-eq (assoc A B (allowedDifferenceAt gs c row)))
 
   -- ---- THE DRAWING'S CELL
-  pub row-near : (gs : List Group) (c : ℕ) → c < size .width → GroupsOk size row gs → Near (natᶠ (getD (drawingRow size gs row) c 0)) (natᶠ 255 *ᶠ drawnShare gs c row) (allowedAt gs c row)
+  pub row-near : (gs : List Group) (c : ℕ) → c < size .width → GroupsOk size row gs → Near (natᶠ (getD (drawingRow size gs row) c 0)) (natᶠ 255 *ᶠ drawnShare gs c row) (allowedDifferenceAt gs c row)
   row-near gs c k ok = rw (row-get gs c k ok)
-      (near-weaken (near-to (mul-cong (natᶠ 255) (min-cong (none-plus (sumOfShares gs c row)))) (cell-near gs c 0 (natᶠ 0) (natᶠ 0) k ok start)) (of-eq (none-plus (allowedAt gs c row))))
+      (near-weaken (near-to (mul-cong (natᶠ 255) (min-cong (none-plus (sumOfShares gs c row)))) (cell-near gs c 0 (natᶠ 0) (natᶠ 0) k ok start)) (of-eq (none-plus (allowedDifferenceAt gs c row))))
     where
       start : Near (natᶠ 0) (natᶠ 255 *ᶠ minᶠ (natᶠ 0) (natᶠ 1)) (natᶠ 0)
       start = near-to {y = natᶠ 0} (unfold _*ᶠ_ minᶠ in lit≈ tt) (near-refl (natᶠ 0))

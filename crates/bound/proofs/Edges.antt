@@ -1,4 +1,5 @@
--- A group's edges by their points in words: what the engine and the exact side both make their edges of; and the active edges of a row, in the engine's order. Assumes nothing.
+-- A group's edges by their points in words: what the engine and the exact side both make their edges of; and the active
+-- edges of a row, in the engine's order. Assumes nothing.
 use mathlib.Core.Path.{_≡_, refl, sym, ap, _∙_}
 use mathlib.Core.List.{List, [], _∷_, _++_, map}
 use mathlib.Core.Bool.{Bool, true, false, cond, _&&_, _||_}
@@ -11,13 +12,14 @@ use Rattle.fraction.specs.Fraction.{Fraction, _≈ᶠ_, natᶠ, _+ᶠ_}
 use Rattle.fraction.proofs.Linear.{at-eq, eq-at, add-at, over}
 use Rattle.fraction.proofs.Order.{refl≈, trans≈}
 use Rattle.fraction.proofs.Ring.{cong-add}
-use Rattle.words.specs.Words.{Point, pointsOf}
-use Rattle.words.specs.Writer.{NearPoint, NearPoints, NearContours}
+use Rattle.word_list.specs.Words.{Point, pointsOf}
+use Rattle.word_list.specs.Writer.{PointInLimit, PointsInLimit, ContoursInLimit}
 use Rattle.winding.specs.Winding.{ExactEdge, exactPoint, exactWalk, lastPoint, exactContour, exactEdges}
 use Rattle.float.specs.Ops.{_⊖_, _⊘_, f0, f1, f-1}
 use Rattle.float.specs.Whole.{ofWhole}
 use Rattle.edge.specs.declared.Edge.{Edge}
-use Rattle.edge.specs.Edges.{coordinateOf, slopedOf, edgeOf, walkOf, lastOf, contourOf, edgesOf, startRow, startingIn, reachingBelow, activeEdges}
+use Rattle.edge.specs.Edges.{slopedOf, edgeBetween, startRow, startingIn, reachingBelow, activeEdges}
+use Rattle.contour.specs.Contours.{coordinateOf, edgeOf, walkOf, lastOf, contourOf, edgesOf}
 use Rattle.bound.proofs.Entries.{pick, sumOver, plus-none, none-plus}
 
 pub record WordEdge : Type 0 where
@@ -58,7 +60,8 @@ pub edges-exact : (cs : List (List Point)) → exactEdges cs ≡ map exactOf (wo
 unfolding exactEdges
 edges-exact [] = refl
 edges-exact (c ∷ cs) =
-    ap (λ (z : List ExactEdge). z ++ exactEdges cs) (contour-exact c) ∙ ap (λ (z : List ExactEdge). map exactOf (wordContour c) ++ z) (edges-exact cs) ∙ sym (map-append exactOf (wordContour c) (wordEdges cs))
+    ap (λ (z : List ExactEdge). z ++ exactEdges cs) (contour-exact c) ∙ ap (λ (z : List ExactEdge). map exactOf (wordContour c) ++ z) (edges-exact cs)
+    ∙ sym (map-append exactOf (wordContour c) (wordEdges cs))
 
 -- ---- the engine's, for a mask h high: one of each at most
 abbrev pub floatOf : ℕ → WordEdge → List Edge
@@ -113,7 +116,7 @@ unfolding slopedOf
 sloped-short h xa ya xb yb d = cond-short (le yb f0 || le (ofWhole h) ya) [] (record { x = xa; y = ya; bottom = yb; slope = (xb ⊖ xa) ⊘ (yb ⊖ ya); down = d } ∷ []) tt tt
 
 pub float-short : (h : ℕ) (r : WordEdge) → Short (floatOf h r)
-unfolding edgeOf
+unfolding edgeBetween
 float-short h r =
     let x0 = coordinateOf (r .«from» .x) in
     let y0 = coordinateOf (r .«from» .y) in
@@ -175,7 +178,8 @@ unfolding reachingBelow
 reach-append y [] m = refl
 reach-append y (e ∷ l) m = go (lt y (e .bottom)) (reach-append y l m)
   where
-    go : (b : Bool) → reachingBelow y (l ++ m) ≡ reachingBelow y l ++ reachingBelow y m → cond b (e ∷ reachingBelow y (l ++ m)) (reachingBelow y (l ++ m)) ≡ cond b (e ∷ reachingBelow y l) (reachingBelow y l) ++ reachingBelow y m
+    go : (b : Bool) → reachingBelow y (l ++ m) ≡ reachingBelow y l ++ reachingBelow y m
+        → cond b (e ∷ reachingBelow y (l ++ m)) (reachingBelow y (l ++ m)) ≡ cond b (e ∷ reachingBelow y l) (reachingBelow y l) ++ reachingBelow y m
     go true h = ap (λ (z : List Edge). e ∷ z) h
     go false h = h
 
@@ -256,7 +260,8 @@ every-active h (suc row) P rs k =
     every-append P (sift (reaches h (suc row)) (actives h rs row)) (sift (starts h (suc row)) rs)
     (every-sift P (reaches h (suc row)) (actives h rs row) (every-active h row (λ r. T (reaches h (suc row) r) → P r) rs
     (every-map (λ r. T (isActive h (suc row) r) → P r) (λ r. T (isActive h row r) → T (reaches h (suc row) r) → P r) rs (λ r f t u. f (from-reach row (floatOf h r) (float-short h r) t u)) k)))
-    (every-sift P (starts h (suc row)) rs (every-map (λ r. T (isActive h (suc row) r) → P r) (λ r. T (starts h (suc row) r) → P r) rs (λ r f t. f (from-start (suc row) (floatOf h r) (float-short h r) t)) k))
+    (every-sift P (starts h (suc row)) rs
+    (every-map (λ r. T (isActive h (suc row) r) → P r) (λ r. T (starts h (suc row) r) → P r) rs (λ r f t. f (from-start (suc row) (floatOf h r) (float-short h r) t)) k))
 
 -- ---- sums
 sum-append : (x : WordEdge → Fraction) (l m : List WordEdge) → sumOver x (l ++ m) ≈ᶠ sumOver x l +ᶠ sumOver x m
@@ -272,18 +277,11 @@ sum-sift x t (r ∷ rs) = go (t r) (sum-sift x t rs)
     go true h = cong-add (refl≈ (x r)) h
     go false h = over (natᶠ 0 ∷ sumOver x (sift t rs) ∷ sumOver (λ r. pick (t r) (x r)) rs ∷ []) (λ N n O A B. eq-at N A (add-at N O B) n (omega (arith, O .is, at-eq N A B h)))
 
-pub sum-cong : (x y : WordEdge → Fraction) (rs : List WordEdge) → Every (λ r. x r ≈ᶠ y r) rs → sumOver x rs ≈ᶠ sumOver y rs
-sum-cong x y [] h = refl≈ (natᶠ 0)
-sum-cong x y (r ∷ rs) h = cong-add (h .0) (sum-cong x y rs (h .1))
-
 sum-add : (x y : WordEdge → Fraction) (rs : List WordEdge) → sumOver x rs +ᶠ sumOver y rs ≈ᶠ sumOver (λ r. x r +ᶠ y r) rs
 sum-add x y [] = over (natᶠ 0 ∷ []) (λ N n O. eq-at N (add-at N O O) O n (omega (arith, O .is)))
 sum-add x y (r ∷ rs) = let i = sum-add x y rs in
-    over (x r ∷ y r ∷ sumOver x rs ∷ sumOver y rs ∷ sumOver (λ r. x r +ᶠ y r) rs ∷ []) (λ N n X Y A B C. eq-at N (add-at N (add-at N X A) (add-at N Y B)) (add-at N (add-at N X Y) C) n (omega (arith, at-eq N (add-at N A B) C i)))
-
-pub every-all : (P : WordEdge → Type 0) (rs : List WordEdge) → ((r : WordEdge) → P r) → Every P rs
-every-all P [] f = tt
-every-all P (r ∷ rs) f = (f r, every-all P rs f)
+    over (x r ∷ y r ∷ sumOver x rs ∷ sumOver y rs ∷ sumOver (λ r. x r +ᶠ y r) rs ∷ []) (λ N n X Y A B C.
+    eq-at N (add-at N (add-at N X A) (add-at N Y B)) (add-at N (add-at N X Y) C) n (omega (arith, at-eq N (add-at N A B) C i)))
 
 -- one that is active has joined
 joined : (row : ℕ) (e : Edge) → T (activeIn row e) → startRow e ≤ row
@@ -296,7 +294,12 @@ joined (suc row) e t = go (eqb (startRow e) (suc row)) (eqb→eq (startRow e) (s
     go false f false g c t = absurd t
 
 -- so the two ways to be active do not meet
-apart : (row : ℕ) (l : List Edge) (x : Fraction) → Short l → pick (any (activeIn row) l) (pick (any (λ e. lt (ofWhole (suc row)) (e .bottom)) l) x) +ᶠ pick (any (λ e. eqb (startRow e) (suc row)) l) x ≈ᶠ pick (any (activeIn (suc row)) l) x
+pub sum-same : (x y : WordEdge → Fraction) (rs : List WordEdge) → ((r : WordEdge) → x r ≈ᶠ y r) → sumOver x rs ≈ᶠ sumOver y rs
+sum-same x y [] h = refl≈ (natᶠ 0)
+sum-same x y (r ∷ rs) h = cong-add (h r) (sum-same x y rs h)
+
+apart : (row : ℕ) (l : List Edge) (x : Fraction) → Short l
+    → pick (any (activeIn row) l) (pick (any (λ e. lt (ofWhole (suc row)) (e .bottom)) l) x) +ᶠ pick (any (λ e. eqb (startRow e) (suc row)) l) x ≈ᶠ pick (any (activeIn (suc row)) l) x
 apart row [] x s = over (natᶠ 0 ∷ []) (λ N n O. eq-at N (add-at N O O) O n (omega (arith, O .is)))
 apart row (e ∷ d ∷ l) x s = absurd s
 apart row (e ∷ []) x s = go (activeIn row e) (joined row e) (lt (ofWhole (suc row)) (e .bottom)) (eqb (startRow e) (suc row)) (eqb→eq (startRow e) (suc row))
@@ -304,7 +307,8 @@ apart row (e ∷ []) x s = go (activeIn row e) (joined row e) (lt (ofWhole (suc 
     clash : startRow e ≤ row → startRow e ≡ suc row → ⊥
     clash h k = omega arith
 
-    go : (a : Bool) → (T a → startRow e ≤ row) → (b c : Bool) → (T c → startRow e ≡ suc row) → pick (cond a true false) (pick (cond b true false) x) +ᶠ pick (cond c true false) x ≈ᶠ pick (cond (cond c true (a && b)) true false) x
+    go : (a : Bool) → (T a → startRow e ≤ row) → (b c : Bool) → (T c → startRow e ≡ suc row)
+        → pick (cond a true false) (pick (cond b true false) x) +ᶠ pick (cond c true false) x ≈ᶠ pick (cond (cond c true (a && b)) true false) x
     go true f b true g = absurd (clash (f tt) (g tt))
     go true f true false g = plus-none x
     go true f false false g = plus-none (natᶠ 0)
@@ -317,32 +321,33 @@ active-sum h (suc row) x rs =
     trans≈ (sum-append x (sift (reaches h (suc row)) (actives h rs row)) (sift (starts h (suc row)) rs))
     (trans≈ (cong-add (trans≈ (sum-sift x (reaches h (suc row)) (actives h rs row)) (active-sum h row (λ r. pick (reaches h (suc row) r) (x r)) rs)) (sum-sift x (starts h (suc row)) rs))
     (trans≈ (sum-add (λ r. pick (isActive h row r) (pick (reaches h (suc row) r) (x r))) (λ r. pick (starts h (suc row) r) (x r)) rs)
-    (sum-cong (λ r. pick (isActive h row r) (pick (reaches h (suc row) r) (x r)) +ᶠ pick (starts h (suc row) r) (x r)) (λ r. pick (isActive h (suc row) r) (x r)) rs (every-all (λ r. pick (isActive h row r) (pick (reaches h (suc row) r) (x r)) +ᶠ pick (starts h (suc row) r) (x r) ≈ᶠ pick (isActive h (suc row) r) (x r)) rs (λ r. apart row (floatOf h r) (x r) (float-short h r))))))
+    (sum-same (λ r. pick (isActive h row r) (pick (reaches h (suc row) r) (x r)) +ᶠ pick (starts h (suc row) r) (x r)) (λ r. pick (isActive h (suc row) r) (x r)) rs
+    (λ r. apart row (floatOf h r) (x r) (float-short h r)))))
 
--- ---- the limits: where a group's points are near, so are its edges' ends, and there is an edge to each point
-pub record NearEdge (r : WordEdge) : Type 0 where
-  pub «from» : NearPoint (r .«from»)
-  pub to : NearPoint (r .to)
+-- ---- the limits: where a group's points are in them, so are its edges' ends, and there is an edge to each point
+pub record EdgeInLimit (r : WordEdge) : Type 0 where
+  pub «from» : PointInLimit (r .«from»)
+  pub to : PointInLimit (r .to)
 
-last-near : (p : Point) (ps : List Point) → NearPoint p → NearPoints ps → NearPoint (lastPoint p ps)
-unfolding lastPoint NearPoints
-last-near p [] h k = h
-last-near p (q ∷ qs) h k = last-near q qs (k .0) (k .1)
+last-in-limit : (p : Point) (ps : List Point) → PointInLimit p → PointsInLimit ps → PointInLimit (lastPoint p ps)
+unfolding lastPoint PointsInLimit
+last-in-limit p [] h k = h
+last-in-limit p (q ∷ qs) h k = last-in-limit q qs (k .0) (k .1)
 
-walk-near : (p : Point) (qs : List Point) → NearPoint p → NearPoints qs → Every NearEdge (wordWalk p qs) × (length (wordWalk p qs) ≡ length qs)
-unfolding NearPoints
-walk-near p [] h k = (tt, refl)
-walk-near p (q ∷ qs) h k = let i = walk-near q qs (k .0) (k .1) in ((record { «from» = h; to = k .0 }, i .0), ap suc (i .1))
+walk-in-limit : (p : Point) (qs : List Point) → PointInLimit p → PointsInLimit qs → Every EdgeInLimit (wordWalk p qs) × (length (wordWalk p qs) ≡ length qs)
+unfolding PointsInLimit
+walk-in-limit p [] h k = (tt, refl)
+walk-in-limit p (q ∷ qs) h k = let i = walk-in-limit q qs (k .0) (k .1) in ((record { «from» = h; to = k .0 }, i .0), ap suc (i .1))
 
-contour-near : (ps : List Point) → NearPoints ps → Every NearEdge (wordContour ps) × (length (wordContour ps) ≡ length ps)
-unfolding NearPoints
-contour-near [] k = (tt, refl)
-contour-near (p ∷ ps) k = walk-near (lastPoint p ps) (p ∷ ps) (last-near p ps (k .0) (k .1)) k
+contour-in-limit : (ps : List Point) → PointsInLimit ps → Every EdgeInLimit (wordContour ps) × (length (wordContour ps) ≡ length ps)
+unfolding PointsInLimit
+contour-in-limit [] k = (tt, refl)
+contour-in-limit (p ∷ ps) k = walk-in-limit (lastPoint p ps) (p ∷ ps) (last-in-limit p ps (k .0) (k .1)) k
 
-pub edges-near : (cs : List (List Point)) → NearContours cs → Every NearEdge (wordEdges cs) × (length (wordEdges cs) ≡ pointsOf cs)
-unfolding NearContours pointsOf
-edges-near [] k = (tt, refl)
-edges-near (c ∷ cs) k =
-    let i = contour-near c (k .0) in
-    let j = edges-near cs (k .1) in
-    (every-append NearEdge (wordContour c) (wordEdges cs) (i .0) (j .0), omega (arith, length-append (wordContour c) (wordEdges cs), i .1, j .1))
+pub edges-in-limit : (cs : List (List Point)) → ContoursInLimit cs → Every EdgeInLimit (wordEdges cs) × (length (wordEdges cs) ≡ pointsOf cs)
+unfolding ContoursInLimit pointsOf
+edges-in-limit [] k = (tt, refl)
+edges-in-limit (c ∷ cs) k =
+    let i = contour-in-limit c (k .0) in
+    let j = edges-in-limit cs (k .1) in
+    (every-append EdgeInLimit (wordContour c) (wordEdges cs) (i .0) (j .0), omega (arith, length-append (wordContour c) (wordEdges cs), i .1, j .1))

@@ -1,10 +1,11 @@
--- Entries: amounts that go into cells of a row, one after another; tallies over them; and what a cell of the row holds after them. Assumes nothing.
+-- Entries: amounts that go into cells of a row, one after another; tallies over them; and what a cell of the row holds
+-- after them. Assumes nothing.
 use mathlib.Core.Path.{_≡_, refl, sym, ap, _∙_, subst}
 use mathlib.Core.Logic.{_≢_}
 use mathlib.Core.List.{List, [], _∷_, _++_}
 use mathlib.Core.Bool.{Bool, true, false, not, cond}
 use Prim.Native.Nat.{ℕ, zero, suc, _+_, _≤_, _<_}
-use native.Mathlib.Nat.{not-suc-le-zero, le-of-suc-le-suc, not-le-of-lt}
+use native.Mathlib.Nat.{le-refl, not-suc-le-zero, le-of-suc-le-suc, not-le-of-lt}
 use native.Mathlib.Omega.{arith}
 use lib.Dec.{T, ltb, eqb, eqb→eq, ltb→lt, nltb→le, lt→ltb, eqb-refl, eqb·suc-suc, eqb·zero-suc, eqb·suc-zero, T-not, not-T}
 use lib.Ieee.Bits.{is-true, is-false}
@@ -14,6 +15,7 @@ use lib.Ieee.Scale.{finite}
 use Rattle.fraction.specs.Fraction.{Fraction, _≤ᶠ_, _≈ᶠ_, natᶠ, _+ᶠ_, absᶠ, Within}
 use Rattle.fraction.proofs.Linear.{at-le, at-eq, le-at, eq-at, add-at, over, lit}
 use Rattle.fraction.proofs.Order.{refl≤, refl≈, trans≈, add-mono}
+use Rattle.fraction.proofs.Ring.{cong-add}
 use Rattle.fraction.proofs.Near.{within-add, within-self, sumᶠ}
 use Rattle.fraction.proofs.Abs.{abs-nonneg, within-abs}
 use Rattle.rounding.specs.Value.{val}
@@ -183,6 +185,22 @@ pub rising-from : (j k : ℕ) (l : List Entry) → j ≤ k → Rising k l → Fr
 rising-from j k [] h r = tt
 rising-from j k (e ∷ es) h r = (omega (arith, r .0), rising-from j (suc (e .cell)) es (omega (arith, r .0)) (r .1))
 
+-- an entry at or left of column c counts there, and entries right of it do not
+pub prefix-in : (e : Entry) (l : List Entry) (c : ℕ) → e .cell ≤ c → prefix (e ∷ l) c ≈ᶠ val (e .amount) +ᶠ prefix l c
+unfolding prefix
+prefix-in e l c h = cong-add (pick-in (e .cell) (suc c) (val (e .amount)) (omega arith)) (refl≈ (tally worth (before (suc c)) l))
+
+pub prefix-none : (l : List Entry) (c : ℕ) → Rising (suc c) l → prefix l c ≈ᶠ natᶠ 0
+unfolding prefix
+prefix-none l c h = from-none worth (suc c) l (rising-from (suc c) (suc c) l (le-refl (suc c)) h)
+
+pub prefix-one : (e : Entry) (l : List Entry) (c : ℕ) → e .cell ≤ c → Rising (suc c) l → prefix (e ∷ l) c ≈ᶠ val (e .amount)
+prefix-one e l c h k = trans≈ (prefix-in e l c h) (trans≈ (cong-add (refl≈ (val (e .amount))) (prefix-none l c k)) (plus-none (val (e .amount))))
+
+pub prefix-append : (l m : List Entry) (c : ℕ) → prefix (l ++ m) c ≈ᶠ prefix l c +ᶠ prefix m c
+unfolding prefix
+prefix-append l m c = tally-append worth (before (suc c)) l m
+
 rising-none : (i k : ℕ) (l : List Entry) → i < k → Rising k l → count (here i) l ≡ 0
 rising-none i k [] h r = refl
 rising-none i k (e ∷ es) h r = go (eqb (e .cell) i) (eqb→eq (e .cell) i) (rising-none i (suc (e .cell)) es (omega (arith, r .0)) (r .1))
@@ -228,7 +246,10 @@ pick-step : (n j : ℕ) (x : Fraction) → sumᶠ n (λ i. pick (eqb j i) x) ≈
 pick-step n j x i = go (eqb j n) refl (ltb j n) refl
   where
     put : (a b c : Bool) → eqb j n ≡ a → ltb j n ≡ b → ltb j (suc n) ≡ c → pick b x +ᶠ pick a x ≈ᶠ pick c x → sumᶠ n (λ i. pick (eqb j i) x) +ᶠ pick (eqb j n) x ≈ᶠ pick (ltb j (suc n)) x
-    put a b c p q r h = rw (p, r) (trans≈ (over (sumᶠ n (λ i. pick (eqb j i) x) ∷ pick b x ∷ pick a x ∷ []) (λ N m S B A. eq-at N (add-at N S A) (add-at N B A) m (omega (arith, at-eq N S B (subst (λ (z : Bool). sumᶠ n (λ i. pick (eqb j i) x) ≈ᶠ pick z x) q i))))) h)
+    put a b c p q r h =
+        let sum = sumᶠ n (λ i. pick (eqb j i) x) in
+        let e = subst (λ (z : Bool). sumᶠ n (λ i. pick (eqb j i) x) ≈ᶠ pick z x) q i in
+        rw (p, r) (trans≈ (over (sum ∷ pick b x ∷ pick a x ∷ []) (λ N m S B A. eq-at N (add-at N S A) (add-at N B A) m (omega (arith, at-eq N S B e)))) h)
 
     go : (a : Bool) → eqb j n ≡ a → (b : Bool) → ltb j n ≡ b → sumᶠ n (λ i. pick (eqb j i) x) +ᶠ pick (eqb j n) x ≈ᶠ pick (ltb j (suc n)) x
     go true p true q = absurd (clash (eqb→eq j n (subst T (sym p) tt)) (ltb→lt j n (subst T (sym q) tt)))
@@ -280,7 +301,8 @@ add-get cells j i f h = go (ltb j (length cells)) refl (ne f f0) refl
     idle true b p q = rw (p ∙ q)
     idle false b p q = refl
 
-    moved : (z : Bool) → eqb j i ≡ z → ne f f0 ≡ true → getD (set cells j (getD cells j nan ⊕ f)) i nan ≡ cond z (getD cells j nan ⊕ f) (getD cells i nan) → getD (set cells j (getD cells j nan ⊕ f)) i nan ≡ bump z (getD cells i nan) f
+    moved : (z : Bool) → eqb j i ≡ z → ne f f0 ≡ true
+        → getD (set cells j (getD cells j nan ⊕ f)) i nan ≡ cond z (getD cells j nan ⊕ f) (getD cells i nan) → getD (set cells j (getD cells j nan ⊕ f)) i nan ≡ bump z (getD cells i nan) f
     moved true e p q = q ∙ rw (p, eqb→eq j i (subst T (sym e) tt))
     moved false e p q = q
 

@@ -1,4 +1,5 @@
--- Where `lo - floor(lo)` is exact, and a lower bound of hi - lo across a whole number. A float from 1/2 on is a whole number of 2 ^ -24. Assumes nothing.
+-- Where `lo - floor(lo)` is exact, and a lower bound of hi - lo across a whole number. A float from 1/2 on is a whole
+-- number of 2 ^ -24. Assumes nothing.
 use lib.Ieee.Fits.{down-pos}
 use mathlib.Core.Path.{_≡_, refl, ap, _∙_}
 use mathlib.Core.List.{[], _∷_}
@@ -73,7 +74,8 @@ floor-sub lo n L h k l = go (leᵇ (1 /2^ 1) (val lo)) (yes≤ (1 /2^ 1) (val lo
         (omega (arith, at-le (2 ^ 24) (whole-at n) X k, at-lt (2 ^ 24) X (whole-at (suc n)) (pow-pos 24) l)))
     go false f g =
         let z : n ≡ 0 = over (natᶠ n ∷ val lo ∷ 1 /2^ 1 ∷ []) (λ N p A B C. tiny N n p (omega (arith, A .is, C .is, at-le N A B k, at-lt N B C p (g tt)))) in
-        let e : val lo -ᶠ val (ofWhole n) ≈ᶠ val lo = over (val lo ∷ val (ofWhole n) ∷ natᶠ n ∷ []) (λ N p A B C. eq-at N (sub-at N A B) A p (omega (arith, C .is, at-eq N B C (F .eq), ap (λ (t : ℕ). t * N) z))) in
+        let e : val lo -ᶠ val (ofWhole n) ≈ᶠ val lo = over (val lo ∷ val (ofWhole n) ∷ natᶠ n ∷ []) (λ N p A B C.
+        eq-at N (sub-at N A B) A p (omega (arith, C .is, at-eq N B C (F .eq), ap (λ (t : ℕ). t * N) z))) in
         let r = sub-rounds binary32 lo (ofWhole n) (L .fine) (F .fine) (L .held) (whole-held n) (within-weaken (within-same (sym≈ e) (L .within)) (lit tt)) in
         record { fine = r .fine; eq = trans≈ (rounds-to lo (L .fine) (L .held) (sym≈ e) r) moved }
       where
@@ -91,6 +93,8 @@ apart lo hi n L H z h k = go (leᵇ (1 /2^ 1) (val lo)) (yes≤ (1 /2^ 1) (val l
     go : (b : Bool) → (T b → 1 /2^ 1 ≤ᶠ val lo) → (T (not b) → val lo <ᶠ 1 /2^ 1) → 1 /2^ 24 ≤ᶠ val hi -ᶠ val lo
     go true f g =
         let X = grain lo (L .fine) (L .held) (f tt) in
-        let Y = grain hi (H .fine) (H .held) (over (val lo ∷ val hi ∷ natᶠ (suc n) ∷ 1 /2^ 1 ∷ []) (λ N p A B C D. le-at N D B p (omega (arith, at-le N D A (f tt), at-lt N A C p h, at-lt N C B p k)))) in
+        let Y = grain hi (H .fine) (H .held) (over (val lo ∷ val hi ∷ natᶠ (suc n) ∷ 1 /2^ 1 ∷ []) (λ N p A B C D.
+        le-at N D B p (omega (arith, at-le N D A (f tt), at-lt N A C p h, at-lt N C B p k)))) in
         le-at (2 ^ 24) (self (1 /2^ 24)) (sub-at (2 ^ 24) Y X) (pow-pos 24) (omega (arith, at-lt (2 ^ 24) X (whole-at (suc n)) (pow-pos 24) h, at-lt (2 ^ 24) (whole-at (suc n)) Y (pow-pos 24) k))
-    go false f g = over (val lo ∷ val hi ∷ natᶠ (suc n) ∷ 1 /2^ 1 ∷ 1 /2^ 24 ∷ []) (λ N p A B C D E. le-at N E (sub-at N B A) p (omega (arith, C .is, D .is, E .is, at-lt N A D p (g tt), at-lt N C B p k)))
+    go false f g = over (val lo ∷ val hi ∷ natᶠ (suc n) ∷ 1 /2^ 1 ∷ 1 /2^ 24 ∷ []) (λ N p A B C D E.
+        le-at N E (sub-at N B A) p (omega (arith, C .is, D .is, E .is, at-lt N A D p (g tt), at-lt N C B p k)))

@@ -1,4 +1,5 @@
--- A group in a row: its bytes, from what is known of each edge that crosses the row, and the number of edges that count for a cell. Assumes nothing.
+-- A group in a row: its bytes, from what is known of each edge that crosses the row, and the number of edges that count
+-- for a cell. Assumes nothing.
 use mathlib.Core.Path.{_≡_, refl, sym, ap, _∙_, subst}
 use mathlib.Core.List.{List, [], _∷_, _++_, map}
 use mathlib.Core.Bool.{Bool, true, false, not, cond, _&&_}
@@ -12,26 +13,28 @@ use Rattle.fraction.proofs.Linear.{at-eq, eq-at, add-at, over}
 use Rattle.fraction.proofs.Order.{refl≈, sym≈, trans≈}
 use Rattle.fraction.proofs.Ring.{cong-add}
 use Rattle.rounding.proofs.Round.{near-to}
-use Rattle.words.specs.Words.{Group, evenOdd, pointsOf}
-use Rattle.words.specs.Writer.{NearContours}
+use Rattle.word_list.specs.Words.{Group, evenOdd, pointsOf}
+use Rattle.word_list.specs.Writer.{ContoursInLimit}
 use Rattle.winding.specs.Winding.{exactEdges, exactPart, meanWinding, crosses, groupShare}
 use Rattle.winding.proofs.Crosses.{no-part}
 use Rattle.float.specs.Ops.{_⊕_, f0}
 use Rattle.float.specs.Whole.{ofWhole}
 use Rattle.row.specs.Row.{Cells}
-use Rattle.row.specs.Sweep.{bytesOf, coveredOf}
+use Rattle.sweep.specs.Bytes.{bytesOf, coveredOf}
 use Rattle.edge.specs.declared.Edge.{Edge}
 use Rattle.edge.specs.Edges.{activeEdges, pieceOf, piecesOf}
-use Rattle.coverage.specs.declared.Size.{Size}
-use Rattle.coverage.specs.Drawing.{groupRow}
+use Rattle.cells.specs.declared.Size.{Size}
+use Rattle.cells.specs.Cells.{SizeAllowed}
+use Rattle.coverage.specs.Drawing.{edgesRow, groupRow}
 use Rattle.bound.specs.Counted.{reaches, countAt}
 use Rattle.bound.proofs.Entries.{Entry, pick, number, number-le, sumOver, added, added-length, added-get, added-append, area}
 use Rattle.bound.proofs.WindingSum.{wind, bytes-wind}
 use Rattle.bound.proofs.RowSum.{flat, All, row-near}
 use Rattle.bound.proofs.Byte.{group-near}
-use Rattle.bound.proofs.Edges.{WordEdge, NearEdge, wordEdges, exactOf, edges-exact, floatOf, spread, edges-float, isActive, actives, actives-is, Every, every-map, every-active, every-all, sum-cong, active-sum, edges-near}
+use Rattle.bound.proofs.Edges.{WordEdge, EdgeInLimit, wordEdges, exactOf, edges-exact, floatOf, spread, edges-float, edges-in-limit}
+use Rattle.bound.proofs.Edges.{isActive, actives, actives-is, Every, every-map, every-active, sum-same, active-sum}
 use Rattle.bound.proofs.Active.{active-is}
-use Rattle.bound.proofs.Piece.{entriesOf, EdgeFacts, edge-facts}
+use Rattle.bound.proofs.Piece.{entriesOf, EdgeFacts, RowIn, edge-facts}
 
 -- ---- lengths and cells of a row
 bytes-length : (eo : Bool) (w : Float) (cells : Cells) → length (bytesOf eo w cells) ≡ length cells
@@ -58,11 +61,11 @@ module _ (w h row : ℕ) where
 -- ---- counts and sums over a group's edges, by those that cross the row
 number-sum : (t : WordEdge → Bool) (l : List WordEdge) → sumOver (λ r. pick (t r) (natᶠ 1)) l ≈ᶠ natᶠ (number t l)
 number-sum t [] = refl≈ (natᶠ 0)
-number-sum t (r ∷ l) = go (t r) (number-sum t l)
+number-sum t (r ∷ l) = go (t r) (sumOver (λ r. pick (t r) (natᶠ 1)) l) (number-sum t l)
   where
-    go : (b : Bool) → sumOver (λ r. pick (t r) (natᶠ 1)) l ≈ᶠ natᶠ (number t l) → pick b (natᶠ 1) +ᶠ sumOver (λ r. pick (t r) (natᶠ 1)) l ≈ᶠ natᶠ (cond b 1 0 + number t l)
-    go true i = over (sumOver (λ r. pick (t r) (natᶠ 1)) l ∷ natᶠ (number t l) ∷ natᶠ (1 + number t l) ∷ natᶠ 1 ∷ []) (λ N n A C S I. eq-at N (add-at N I A) S n (omega (arith, C .is, S .is, I .is, at-eq N A C i)))
-    go false i = over (sumOver (λ r. pick (t r) (natᶠ 1)) l ∷ natᶠ (number t l) ∷ natᶠ (0 + number t l) ∷ natᶠ 0 ∷ []) (λ N n A C S I. eq-at N (add-at N I A) S n (omega (arith, C .is, S .is, I .is, at-eq N A C i)))
+    go : (b : Bool) (x : Fraction) → x ≈ᶠ natᶠ (number t l) → pick b (natᶠ 1) +ᶠ x ≈ᶠ natᶠ (cond b 1 0 + number t l)
+    go true x i = over (x ∷ natᶠ (number t l) ∷ natᶠ (1 + number t l) ∷ natᶠ 1 ∷ []) (λ N n A C S I. eq-at N (add-at N I A) S n (omega (arith, C .is, S .is, I .is, at-eq N A C i)))
+    go false x i = over (x ∷ natᶠ (number t l) ∷ natᶠ (0 + number t l) ∷ natᶠ 0 ∷ []) (λ N n A C S I. eq-at N (add-at N I A) S n (omega (arith, C .is, S .is, I .is, at-eq N A C i)))
 
 pick-and : (a b : Bool) (x : Fraction) → pick a (pick b x) ≈ᶠ pick (a && b) x
 pick-and true b x = refl≈ (pick b x)
@@ -70,22 +73,27 @@ pick-and false b x = refl≈ (natᶠ 0)
 
 number-active : (h row : ℕ) (t : WordEdge → Bool) (rs : List WordEdge) → number t (actives h rs row) ≡ number (λ r. isActive h row r && t r) rs
 number-active h row t rs =
-    let e = trans≈ (sym≈ (number-sum t (actives h rs row))) (trans≈ (active-sum h row (λ r. pick (t r) (natᶠ 1)) rs) (trans≈ (sum-cong (λ r. pick (isActive h row r) (pick (t r) (natᶠ 1))) (λ r. pick (isActive h row r && t r) (natᶠ 1)) rs
-    (every-all (λ r. pick (isActive h row r) (pick (t r) (natᶠ 1)) ≈ᶠ pick (isActive h row r && t r) (natᶠ 1)) rs (λ r. pick-and (isActive h row r) (t r) (natᶠ 1)))) (number-sum (λ r. isActive h row r && t r) rs))) in
+    let a = active-sum h row (λ r. pick (t r) (natᶠ 1)) rs in
+    let b = sum-same (λ r. pick (isActive h row r) (pick (t r) (natᶠ 1))) (λ r. pick (isActive h row r && t r) (natᶠ 1)) rs (λ r. pick-and (isActive h row r) (t r) (natᶠ 1)) in
+    let e = trans≈ (sym≈ (number-sum t (actives h rs row))) (trans≈ a (trans≈ b (number-sum (λ r. isActive h row r && t r) rs))) in
     omega (arith, e .eq)
 
 all-number : (l : List WordEdge) → number (λ r. true) l ≡ length l
 all-number [] = refl
 all-number (r ∷ l) = omega (arith, all-number l)
 
-count-is : (h row c : ℕ) (rs : List WordEdge) → Every (λ r. isActive h row r ≡ crosses (exactOf r) row) rs → number (λ r. isActive h row r && reaches (exactOf r) c row) rs ≡ countAt (map exactOf rs) c row
+-- an edge is active in a row exactly where it crosses it
+abbrev ActiveAsCrosses : ℕ → ℕ → List WordEdge → Type 0
+ActiveAsCrosses h row rs = Every (λ r. isActive h row r ≡ crosses (exactOf r) row) rs
+
+count-is : (h row c : ℕ) (rs : List WordEdge) → ActiveAsCrosses h row rs → number (λ r. isActive h row r && reaches (exactOf r) c row) rs ≡ countAt (map exactOf rs) c row
 count-is h row c [] k = refl
 count-is h row c (r ∷ rs) k =
     ap (λ (b : Bool). cond (b && reaches (exactOf r) c row) 1 0 + number (λ r. isActive h row r && reaches (exactOf r) c row) rs) (k .0)
     ∙ ap (λ (n : ℕ). cond (crosses (exactOf r) row && reaches (exactOf r) c row) 1 0 + n) (count-is h row c rs (k .1))
 
 -- an edge that does not cross the row has no part in it, so the sum over the active ones is the mean winding
-mean-is : (c row h : ℕ) (rs : List WordEdge) → Every (λ r. isActive h row r ≡ crosses (exactOf r) row) rs → sumOver (λ r. pick (isActive h row r) (exactPart (exactOf r) c row)) rs ≈ᶠ meanWinding (map exactOf rs) c row
+mean-is : (c row h : ℕ) (rs : List WordEdge) → ActiveAsCrosses h row rs → sumOver (λ r. pick (isActive h row r) (exactPart (exactOf r) c row)) rs ≈ᶠ meanWinding (map exactOf rs) c row
 unfolding meanWinding
 mean-is c row h [] k = refl≈ (natᶠ 0)
 mean-is c row h (r ∷ rs) k = cong-add (go (isActive h row r) (λ t. no-part (exactOf r) row c (subst (λ (z : Bool). T (not z)) (k .0) t))) (mean-is c row h rs (k .1))
@@ -100,7 +108,7 @@ pub record GroupOk (size : Size) (row : ℕ) (g : Group) : Type 0 where
   pub near : (c : ℕ) → c < size .width → Near (natᶠ (getD (groupRow size g row) c 0)) (natᶠ 255 *ᶠ groupShare g c row) (natᶠ (countAt (exactEdges (g .contours)) c row) +ᶠ 1 /2^ 1)
 
 -- ---- THE GROUP IN A ROW
-module _ (size : Size) (row : ℕ) (g : Group) (W : size .width ≤ 4096) (H : size .height ≤ 4096) (l : row < size .height) (close : NearContours (g .contours)) (few : pointsOf (g .contours) ≤ 2048) where
+module _ (size : Size) (row : ℕ) (g : Group) (allowed : SizeAllowed size) (l : row < size .height) (close : ContoursInLimit (g .contours)) (few : pointsOf (g .contours) ≤ 2048) where
   abbrev w : ℕ
   w = size .width
 
@@ -110,12 +118,15 @@ module _ (size : Size) (row : ℕ) (g : Group) (W : size .width ≤ 4096) (H : s
   abbrev rs : List WordEdge
   rs = wordEdges (g .contours)
 
-  acts : Every (λ r. isActive h row r ≡ crosses (exactOf r) row) rs
-  acts = every-map NearEdge (λ r. isActive h row r ≡ crosses (exactOf r) row) rs (λ r m. active-is h row r H l m) ((edges-near (g .contours) close) .0)
+  acts : ActiveAsCrosses h row rs
+  acts = every-map EdgeInLimit (λ r. isActive h row r ≡ crosses (exactOf r) row) rs (λ r m. active-is h row r (allowed .1) l m) ((edges-in-limit (g .contours) close) .0)
 
   facts : Every (EdgeFacts w h row) (actives h rs row)
-  facts = every-active h row (EdgeFacts w h row) rs
-      (every-map NearEdge (λ r. T (isActive h row r) → EdgeFacts w h row r) rs (λ r m t. edge-facts w h row r W H l m (subst T (active-is h row r H l m) t)) ((edges-near (g .contours) close) .0))
+  facts =
+      let in-mask : RowIn w h row = record { narrow = allowed .0; low = allowed .1; inside = l } in
+      every-active h row (EdgeFacts w h row) rs
+      (every-map EdgeInLimit (λ r. T (isActive h row r) → EdgeFacts w h row r) rs (λ r m t. edge-facts w h row r in-mask m (subst T (active-is h row r (allowed .1) l m) t))
+      ((edges-in-limit (g .contours) close) .0))
 
   abbrev es : List Entry
   es = flat (entriesOf w h row) (actives h rs row)
@@ -124,7 +135,7 @@ module _ (size : Size) (row : ℕ) (g : Group) (W : size .width ≤ 4096) (H : s
   cells = added (replicate w f0) es
 
   row-is : groupRow size g row ≡ bytesOf (evenOdd g) f0 cells
-  unfolding groupRow
+  unfolding groupRow edgesRow
   row-is =
       ap (λ (z : List Edge). bytesOf (evenOdd g) f0 (piecesOf (ofWhole h) (ofWhole row) (ofWhole (suc row)) (replicate w f0) (activeEdges z row))) (edges-float h (g .contours))
       ∙ ap (λ (z : List Edge). bytesOf (evenOdd g) f0 (piecesOf (ofWhole h) (ofWhole row) (ofWhole (suc row)) (replicate w f0) z)) (actives-is h rs row)
@@ -147,14 +158,15 @@ module _ (size : Size) (row : ℕ) (g : Group) (W : size .width ≤ 4096) (H : s
       held : (i : ℕ) → i < length cells → getD cells i nan ≡ area (0 + i) f0 es
       held i k =
           let z : i ≡ 0 + i = omega arith in
-          added-get (replicate w f0) es i (omega (arith, length-replicate w f0, cells-length)) ∙ ap (λ (a : Float). area i a es) (getD-replicate w i f0 nan (omega (arith, cells-length))) ∙ ap (λ (n : ℕ). area n f0 es) z
+          added-get (replicate w f0) es i (omega (arith, length-replicate w f0, cells-length))
+          ∙ ap (λ (a : Float). area i a es) (getD-replicate w i f0 nan (omega (arith, cells-length))) ∙ ap (λ (n : ℕ). area n f0 es) z
 
   few-active : length (actives h rs row) ≤ 2048
   few-active =
       let a = all-number (actives h rs row) in
       let b = number-active h row (λ r. true) rs in
       let c = number-le (λ r. isActive h row r && true) rs in
-      let d = (edges-near (g .contours) close) .1 in
+      let d = (edges-in-limit (g .contours) close) .1 in
       omega (arith, a, b, c, d, few)
 
   goods : (c : ℕ) → c < w → (l : List WordEdge) → Every (EdgeFacts w h row) l → All (entriesOf w h row) (λ r. reaches (exactOf r) c row) (λ r. exactPart (exactOf r) c row) (suc c) l
@@ -163,10 +175,11 @@ module _ (size : Size) (row : ℕ) (g : Group) (W : size .width ≤ 4096) (H : s
 
   cell-near : (c : ℕ) → c < w → Near (natᶠ (getD (groupRow size g row) c 0)) (natᶠ 255 *ᶠ groupShare g c row) (natᶠ (countAt (exactEdges (g .contours)) c row) +ᶠ 1 /2^ 1)
   cell-near c k =
-      let R = row-near (entriesOf w h row) (λ r. reaches (exactOf r) c row) (λ r. exactPart (exactOf r) c row) (suc c) (actives h rs row) (goods c k (actives h rs row) facts) few-active (omega arith) in
+      let good = goods c k (actives h rs row) facts in
+      let R = row-near (entriesOf w h row) (λ r. reaches (exactOf r) c row) (λ r. exactPart (exactOf r) c row) (suc c) (actives h rs row) good few-active (omega arith) in
       let X = trans≈ (active-sum h row (λ r. exactPart (exactOf r) c row) rs) (mean-is c row h rs acts) in
       let n = number-active h row (λ r. reaches (exactOf r) c row) rs ∙ count-is h row c rs acts in
-      let G = group-near (evenOdd g) (winding c) (R .0) (R .1) (meanWinding (map exactOf rs) c row) (number (λ r. reaches (exactOf r) c row) (actives h rs row)) (near-to X (R .2)) (R .3) in
+      let G = group-near (evenOdd g) (record { fine = R .fine; held = R .held; near = near-to X (R .near); size = R .size }) in
       rw (byte-is c k, edges-exact (g .contours), ← n) G
 
   pub group-ok : GroupOk size row g

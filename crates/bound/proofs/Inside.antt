@@ -20,10 +20,11 @@ use Rattle.bound.proofs.Model.{evenE, singleE, twoE, moreE, acrossE, in
 use Rattle.bound.proofs.Adds.{Adds, cutTwice, acrossError, insideError, insideExcess}
 use Rattle.bound.proofs.Numbers.{Num, column-is, ceil-is}
 use Rattle.bound.proofs.OneCell.{single-adds}
-use Rattle.bound.proofs.Across.{more-adds, two-adds}
+use Rattle.bound.proofs.Across.{Across, more-adds, two-adds}
 
 pub weaken : {w m : ℕ} {L : List Entry} {x y a e d E D : Fraction} → e ≤ᶠ E → d ≤ᶠ D → Adds w m L x y a e d → Adds w m L x y a E D
-weaken {a = a} p q h = record { fine = h .fine; near = λ c k. near-weaken (h .near c k) p; size = trans (h .size) (add-mono (refl≤ (absᶠ a)) q); few = h .few; from = h .from }
+weaken {a = a} p q h =
+    record { fine = h .fine; near = λ c k. near-weaken (h .near c k) p; size = trans (h .size) (add-mono (refl≤ (absᶠ a)) q); few = h .few; from = h .from }
 
 -- a choice
 chosen : (b : Bool) (x y : List Entry) → T b → x ≡ cond b x y
@@ -44,36 +45,61 @@ module _ (w : ℕ) (lo hi a : Float) (Lo : Num lo (natᶠ 4096)) (Hi : Num hi (n
   abbrev Good : List Entry → Type 0
   Good L = Adds w 1 L (val lo) (val hi) (val a) insideError insideExcess
 
-  across : (first pen j : ℕ) → pen ≡ suc (first + j) → suc pen ≤ 4096 → natᶠ first ≤ᶠ val lo → val lo <ᶠ natᶠ (suc first) → natᶠ pen <ᶠ val hi → val hi ≤ᶠ natᶠ (suc pen) → Good (acrossE lo hi first (suc pen) a)
-  across first pen zero J P from below beyond to =
-      let per = perOf lo hi in
-      let enters = entersOf lo first in
-      let head = cornerOf per enters in
-      let tail = cornerOf per (leavesOf hi (suc pen)) in
-      weaken (lit tt) (lit tt) (subst (λ (L : List Entry). Adds w 1 (entry first (a ⊗ head) ∷ L) (val lo) (val hi) (val a) acrossError acrossError)
-      (chosen (eqb (suc pen) (first + 2)) (twoE first (suc pen) a head tail) (moreE first (suc pen) a per enters head tail) (subst (λ (t : ℕ). T (eqb (suc pen) t)) (omega (arith, J)) (eqb-refl (suc pen))))
-      (two-adds lo hi first pen 0 a Lo Hi A P J from below beyond to refl w))
-  across first pen (suc k) J P from below beyond to =
-      let per = perOf lo hi in
-      let enters = entersOf lo first in
-      let head = cornerOf per enters in
-      let tail = cornerOf per (leavesOf hi (suc pen)) in
-      let x2 = a ⊗ (secondOf per enters ⊖ head) in
-      let form : ℕ → ℕ → ℕ → List Entry = λ i p n. entry first (a ⊗ head) ∷ entry (first + 1) x2 ∷ evenE i (first + 2) (a ⊗ per) ++ (entry p (a ⊗ (f1 ⊖ (secondOf per enters ⊕ ofWhole n ⊗ per) ⊖ tail)) ∷ entry (suc pen) (a ⊗ tail) ∷ []) in
-      let p1 : k ≡ suc pen - 1 - (first + 2) = omega (arith, J) in
-      let p2 : pen ≡ suc pen - 1 = omega arith in
-      let p3 : k ≡ suc pen - first - 3 = omega (arith, J) in
-      let path : form k pen k ≡ form (suc pen - 1 - (first + 2)) (suc pen - 1) (suc pen - first - 3) = ap (λ (i : ℕ). form i pen k) p1 ∙ ap (λ (p : ℕ). form (suc pen - 1 - (first + 2)) p k) p2 ∙ ap (λ (n : ℕ). form (suc pen - 1 - (first + 2)) (suc pen - 1) n) p3 in
-      weaken (lit tt) (lit tt) (subst (λ (L : List Entry). Adds w 1 L (val lo) (val hi) (val a) acrossError acrossError) (path ∙ ap (λ (L : List Entry). entry first (a ⊗ head) ∷ L) (other (eqb (suc pen) (first + 2)) (twoE first (suc pen) a head tail) (moreE first (suc pen) a per enters head tail) (unequal (suc pen) (first + 2) (omega (arith, J)))))
-      (more-adds lo hi first pen (suc k) a Lo Hi A P J from below beyond to k refl w))
+  abbrev Near-enough : List Entry → Type 0
+  Near-enough L = Adds w 1 L (val lo) (val hi) (val a) acrossError acrossError
 
-  across-last : (first last : ℕ) → suc first < last → last ≤ 4096 → natᶠ first ≤ᶠ val lo → val lo <ᶠ natᶠ (suc first) → natᶠ last <ᶠ val hi +ᶠ natᶠ 1 → val hi ≤ᶠ natᶠ last → Good (acrossE lo hi first last a)
+  -- the lists that the engine chooses from, by the last cell
+  abbrev headOf : ℕ → Float
+  headOf first = cornerOf (perOf lo hi) (entersOf lo first)
+
+  abbrev tailOf : ℕ → Float
+  tailOf pen = cornerOf (perOf lo hi) (leavesOf hi (suc pen))
+
+  abbrev two : ℕ → ℕ → List Entry
+  two first pen = twoE first (suc pen) a (headOf first) (tailOf pen)
+
+  abbrev more : ℕ → ℕ → List Entry
+  more first pen = moreE first (suc pen) a (perOf lo hi) (entersOf lo first) (headOf first) (tailOf pen)
+
+  across : {first pen : ℕ} (j : ℕ) → Across lo hi first pen j a → Good (acrossE lo hi first (suc pen) a)
+  across {first} {pen} zero piece =
+      let is = chosen (eqb (suc pen) (first + 2)) (two first pen) (more first pen) (subst (λ (t : ℕ). T (eqb (suc pen) t)) (omega (arith, piece .between)) (eqb-refl (suc pen))) in
+      weaken (lit tt) (lit tt) (subst (λ (L : List Entry). Near-enough (entry first (a ⊗ headOf first) ∷ L)) is (two-adds lo hi first pen 0 a piece refl w))
+  across {first} {pen} (suc k) piece =
+      let per = perOf lo hi in
+      let enters = entersOf lo first in
+      let tail = tailOf pen in
+      let second = entry (first + 1) (a ⊗ (secondOf per enters ⊖ headOf first)) in
+      let last = entry (suc pen) (a ⊗ tail) ∷ [] in
+      let fourth : ℕ → Float = λ n. a ⊗ (f1 ⊖ (secondOf per enters ⊕ ofWhole n ⊗ per) ⊖ tail) in
+      let form : ℕ → ℕ → ℕ → List Entry = λ i p n. second ∷ evenE i (first + 2) (a ⊗ per) ++ (entry p (fourth n) ∷ last) in
+      let p1 : k ≡ suc pen - 1 - (first + 2) = omega (arith, piece .between) in
+      let p2 : pen ≡ suc pen - 1 = omega arith in
+      let p3 : k ≡ suc pen - first - 3 = omega (arith, piece .between) in
+      let path : form k pen k ≡ form (suc pen - 1 - (first + 2)) (suc pen - 1) (suc pen - first - 3) =
+      ap (λ (i : ℕ). form i pen k) p1 ∙ ap (λ (p : ℕ). form (suc pen - 1 - (first + 2)) p k) p2
+      ∙ ap (λ (n : ℕ). form (suc pen - 1 - (first + 2)) (suc pen - 1) n) p3 in
+      let is = path ∙ other (eqb (suc pen) (first + 2)) (two first pen) (more first pen) (unequal (suc pen) (first + 2) (omega (arith, piece .between))) in
+      weaken (lit tt) (lit tt) (subst (λ (L : List Entry). Near-enough (entry first (a ⊗ headOf first) ∷ L)) is (more-adds lo hi first pen (suc k) a piece k refl w))
+
+  across-last : (first last : ℕ) → suc first < last → last ≤ 4096 → natᶠ first ≤ᶠ val lo → val lo <ᶠ natᶠ (suc first) → natᶠ last <ᶠ val hi +ᶠ natᶠ 1 → val hi ≤ᶠ natᶠ last
+      → Good (acrossE lo hi first last a)
   across-last first zero l P from below beyond to = absurd (no l)
     where
       no : suc first < 0 → ⊥
       no l = omega arith
-  across-last first (suc pen) l P from below beyond to = across first pen (pen - suc first) (omega (arith, l)) P from below
-      (over (natᶠ (suc pen) ∷ natᶠ pen ∷ val hi ∷ natᶠ 1 ∷ []) (λ N n X Y H O. lt-at N Y H (omega (arith, X .is, Y .is, O .is, at-lt N X (add-at N H O) n beyond)))) to
+  across-last first (suc pen) l P from below beyond to = across (pen - suc first) (record {
+    low = Lo;
+    high = Hi;
+    height = A;
+    few = P;
+    between = omega (arith, l);
+    from = from;
+    below = below;
+    beyond = over (natᶠ (suc pen) ∷ natᶠ pen ∷ val hi ∷ natᶠ 1 ∷ []) (λ N n X Y H O.
+        lt-at N Y H (omega (arith, X .is, Y .is, O .is, at-lt N X (add-at N H O) n beyond)));
+    to = to;
+  })
 
   -- ---- THE CASE
   pub inside-adds : natᶠ 0 ≤ᶠ val lo → val lo ≤ᶠ val hi → Good (insideE lo hi a)
@@ -93,8 +119,19 @@ module _ (w : ℕ) (lo hi a : Float) (Lo : Num lo (natᶠ 4096)) (Hi : Num hi (n
           le-nat n h = omega (arith, h .le)
 
       last-le : ceilColumn hi ≤ 4096
-      last-le = over (natᶠ (ceilColumn hi) ∷ val hi ∷ natᶠ 1 ∷ natᶠ 4096 ∷ []) (λ N n X H O Q. le-of-suc-le-suc (lt-of-mul-lt-mul-right N (omega (arith, X .is, O .is, Q .is, at-lt N X (add-at N H O) n (C .1), at-le N H Q (Hi .within .hi)))))
+      last-le = over (natᶠ (ceilColumn hi) ∷ val hi ∷ natᶠ 1 ∷ natᶠ 4096 ∷ []) (λ N n X H O Q.
+          le-of-suc-le-suc (lt-of-mul-lt-mul-right N (omega (arith, X .is, O .is, Q .is, at-lt N X (add-at N H O) n (C .1), at-le N H Q (Hi .within .hi)))))
 
-      go : (b : Bool) → (T b → ceilColumn hi ≤ columnOf lo + 1) → (T (not b) → columnOf lo + 1 < ceilColumn hi) → Good (cond b (singleE (columnOf lo) (halfway lo hi) a) (acrossE lo hi (columnOf lo) (ceilColumn hi) a))
-      go true f g = single-adds lo hi (columnOf lo) a Lo Hi A first-le (F .0) order (trans (C .0) (record { le = omega (arith, f tt) })) (F .1) w
+      go : (b : Bool) → (T b → ceilColumn hi ≤ columnOf lo + 1) → (T (not b) → columnOf lo + 1 < ceilColumn hi)
+          → Good (cond b (singleE (columnOf lo) (halfway lo hi) a) (acrossE lo hi (columnOf lo) (ceilColumn hi) a))
+      go true f g = single-adds lo hi (columnOf lo) a (record {
+        low = Lo;
+        high = Hi;
+        height = A;
+        few = first-le;
+        from = F .0;
+        order = order;
+        to = trans (C .0) (record { le = omega (arith, f tt) });
+        below = F .1;
+      }) w
       go false f g = across-last (columnOf lo) (ceilColumn hi) (omega (arith, g tt)) last-le (F .0) (F .1) (C .1) (C .0)

@@ -1,4 +1,5 @@
--- What `span` does to a row, as a list of entries: `spanE` has those that `spanBy` adds, and so on for its parts. Assumes nothing.
+-- What `span` does to a row, as a list of entries: `spanE` has those that `spanBy` adds, and so on for its parts.
+-- Assumes nothing.
 use Prim.Native.Nat.{ℕ, zero, suc, _+_, _-_}
 use mathlib.Core.Path.{_≡_, refl, sym, ap, _∙_}
 use mathlib.Core.Bool.{Bool, true, false, cond}

@@ -1,4 +1,5 @@
--- Floats that are known: exactly, or up to a bound of their size. The constants, whole numbers, and the columns that a number lies between. Assumes nothing.
+-- Floats that are known: exactly, or up to a bound of their size. The constants, whole numbers, and the columns that a
+-- number lies between. Assumes nothing.
 use mathlib.Core.Path.{_≡_, refl, sym, ap}
 use mathlib.Core.List.{[], _∷_}
 use mathlib.Core.Bool.{Bool, true, false, not, cond}
@@ -24,7 +25,7 @@ use Rattle.float.specs.Simple.{absOf, minOf, maxOf}
 use Rattle.float.specs.Whole.{columnOf, ofWhole}
 use Rattle.float.proofs.CastBelief.{ofWhole-exact, column-below}
 use Rattle.row.specs.Row.{ceilColumn}
-use Rattle.row.specs.Sweep.{f255}
+use Rattle.sweep.specs.Bytes.{f255}
 
 -- a value of the format, and a bound of its size
 pub record Num (v : Float) (b : Fraction) : Type 0 where
@@ -132,7 +133,8 @@ ceil-is x p q h k = go (lt (ofWhole (columnOf x)) x) (lt-yes F (itself x p q)) (
       le-at N X C n (omega (arith, B .is, C .is, at-lt N X B n (W .1))),
       lt-at N C (add-at N X O) (omega (arith, A .is, C .is, O .is, at-lt N A X n (f tt))),
     ))
-    go false f g = over (val x ∷ natᶠ (columnOf x) ∷ natᶠ 1 ∷ []) (λ N n X A O. (le-at N X A n (omega (arith, at-le N X A (g tt))), lt-at N A (add-at N X O) (omega (arith, n, O .is, at-le N A X (W .0)))))
+    go false f g = over (val x ∷ natᶠ (columnOf x) ∷ natᶠ 1 ∷ []) (λ N n X A O.
+        (le-at N X A n (omega (arith, at-le N X A (g tt))), lt-at N A (add-at N X O) (omega (arith, n, O .is, at-le N A X (W .0)))))
 
 -- ---- the size, the lesser and the greater of floats that are known exactly
 pub size-signed : (s : Bool) (a : ℕ) → sizeʷ (signed s a) ≡ a

@@ -1,7 +1,8 @@
--- A piece within one cell: the entries' values are near the exact shares. The large error of `span` is half of lo + hi, at x near 4096. Assumes nothing.
+-- A piece within one cell: the entries' values are near the exact shares. The large error of `span` is half of lo + hi,
+-- at x near 4096. Assumes nothing.
 use native.Mathlib.Nat.{le-of-suc-le-suc, le-refl, lt-of-mul-lt-mul-right}
 use mathlib.Core.Path.{_≡_, sym, subst}
-use mathlib.Core.List.{[], _∷_}
+use mathlib.Core.List.{List, [], _∷_, _++_}
 use Prim.Native.Nat.{ℕ, suc, _+_, _≤_}
 use native.Mathlib.Decide.{decLe}
 use native.Mathlib.Omega.{arith}
@@ -32,7 +33,12 @@ number n h = let I = whole-is n (omega (arith, h)) in
       X = natᶠ n;
       b = natᶠ 4096;
       e = natᶠ 0;
-      is = record { fine = I .fine; held = whole-held n; near = near-same (sym≈ (I .eq)) (near-refl (natᶠ n)); within = within-weaken (within-self (record { le = omega arith })) (record { le = omega (arith, h) }) };
+      is = record {
+        fine = I .fine;
+        held = whole-held n;
+        near = near-same (sym≈ (I .eq)) (near-refl (natᶠ n));
+        within = within-weaken (within-self (record { le = omega arith })) (record { le = omega (arith, h) });
+      };
     }
 
 unfoldable pub one : Leaf binary32
@@ -61,8 +67,18 @@ singleError = 8204 /2^ 24
 abbrev bothError : Fraction
 bothError = 10 /2^ 24
 
-module _ (lo hi : Float) (first : ℕ) (a : Float) (Lo : Num lo (natᶠ 4096)) (Hi : Num hi (natᶠ 4096)) (A : Num a cutTwice) (F : first ≤ 4096)
-    (from : natᶠ first ≤ᶠ val lo) (order : val lo ≤ᶠ val hi) (to : val hi ≤ᶠ natᶠ (suc first)) (below : val lo <ᶠ natᶠ (suc first)) where
+-- a piece from lo to hi in the cell `first`, with the signed height a
+pub record InCell (lo hi : Float) (first : ℕ) (a : Float) : Type 0 where
+  pub low : Num lo (natᶠ 4096)
+  pub high : Num hi (natᶠ 4096)
+  pub height : Num a cutTwice
+  pub few : first ≤ 4096
+  pub from : natᶠ first ≤ᶠ val lo
+  pub order : val lo ≤ᶠ val hi
+  pub to : val hi ≤ᶠ natᶠ (suc first)
+  pub below : val lo <ᶠ natᶠ (suc first)
+
+module _ (lo hi : Float) (first : ℕ) (a : Float) (piece : InCell lo hi first a) where
   abbrev m : Float
   m = f½ ⊗ (lo ⊕ hi) ⊖ ofWhole first
 
@@ -73,8 +89,8 @@ module _ (lo hi : Float) (first : ℕ) (a : Float) (Lo : Num lo (natᶠ 4096)) (
   in-cell : (natᶠ 0 ≤ᶠ M) × (M ≤ᶠ natᶠ 1)
   in-cell = over (val lo ∷ val hi ∷ natᶠ first ∷ natᶠ (suc first) ∷ 1 /2^ 1 *ᶠ (val lo +ᶠ val hi) ∷ natᶠ 1 ∷ natᶠ 0 ∷ []) (λ N n L H P Q J O Z.
       let s = scale-at N (1 /2^ 1) (add-at N L H) J in (
-        le-at N Z (search at) n (omega (arith, O .is, Z .is, P .is, Q .is, s, at-le N P L from, at-le N L H order)),
-        le-at N (search at) O n (omega (arith, O .is, P .is, Q .is, s, at-le N L H order, at-le N H Q to)),
+        le-at N Z (search at) n (omega (arith, O .is, Z .is, P .is, Q .is, s, at-le N P L (piece .from), at-le N L H (piece .order))),
+        le-at N (search at) O n (omega (arith, O .is, P .is, Q .is, s, at-le N L H (piece .order), at-le N H Q (piece .to))),
       ))
 
   M-within : Within M (natᶠ 1)
@@ -82,7 +98,9 @@ module _ (lo hi : Float) (first : ℕ) (a : Float) (Lo : Num lo (natᶠ 4096)) (
 
   abbrev middle : E binary32
   unfolding half
-  middle = op minus (known (natᶠ 1)) (op times auto (leaf half) (op plus auto (leaf (sized lo (natᶠ 4096) Lo)) (leaf (sized hi (natᶠ 4096) Hi)))) (leaf (number first F))
+  middle =
+      op minus (known (natᶠ 1)) (op times auto (leaf half) (op plus auto (leaf (sized lo (natᶠ 4096) (piece .low))) (leaf (sized hi (natᶠ 4096) (piece .high)))))
+      (leaf (number first (piece .few)))
 
   middle-known : Known binary32 m M (natᶠ 1) middleError
   unfolding middle half _+ᶠ_ _*ᶠ_
@@ -95,10 +113,10 @@ module _ (lo hi : Float) (first : ℕ) (a : Float) (Lo : Num lo (natᶠ 4096)) (
   -- ---- the two amounts, from the middle as it was worked out
   abbrev left-e : E binary32
   unfolding one
-  left-e = op times auto (leaf (sized a cutTwice A)) (op minus auto (leaf one) (leaf (sized m (natᶠ 2) m-num)))
+  left-e = op times auto (leaf (sized a cutTwice (piece .height))) (op minus auto (leaf one) (leaf (sized m (natᶠ 2) m-num)))
 
   abbrev right-e : E binary32
-  right-e = op times auto (leaf (sized a cutTwice A)) (leaf (sized m (natᶠ 2) m-num))
+  right-e = op times auto (leaf (sized a cutTwice (piece .height))) (leaf (sized m (natᶠ 2) m-num))
 
   abbrev left : Float
   left = a ⊗ (f1 ⊖ m)
@@ -116,10 +134,10 @@ module _ (lo hi : Float) (first : ℕ) (a : Float) (Lo : Num lo (natᶠ 4096)) (
 
   -- the exact shares
   left-near : Near (val left) (val a *ᶠ (natᶠ 1 -ᶠ M)) singleError
-  left-near = near-weaken (near-trans (left-known .near) (near-by (near-sub (near-refl (natᶠ 1)) (middle-known .near)) (A .within))) (unfold _+ᶠ_ _*ᶠ_ in lit tt)
+  left-near = near-weaken (near-trans (left-known .near) (near-by (near-sub (near-refl (natᶠ 1)) (middle-known .near)) (piece .height .within))) (unfold _+ᶠ_ _*ᶠ_ in lit tt)
 
   right-near : Near (val right) (val a *ᶠ M) singleError
-  right-near = near-weaken (near-trans (right-known .near) (near-by (middle-known .near) (A .within))) (unfold _+ᶠ_ _*ᶠ_ in lit tt)
+  right-near = near-weaken (near-trans (right-known .near) (near-by (middle-known .near) (piece .height .within))) (unfold _+ᶠ_ _*ᶠ_ in lit tt)
 
   both-near : Near (val left +ᶠ val right) (val a) bothError
   both-near = near-weaken (near-to all (near-add (left-known .near) (right-known .near))) (unfold _+ᶠ_ in lit tt)
@@ -150,11 +168,15 @@ module _ (lo hi : Float) (first : ℕ) (a : Float) (Lo : Num lo (natᶠ 4096)) (
   unfolding prefix
   cells c = go (decLe first c) (decLe (suc first) c)
     where
-      go : Dec (first ≤ c) → Dec (suc first ≤ c) → Near (pick (ltb first (suc c)) (val left) +ᶠ (pick (ltb (first + 1) (suc c)) (val right) +ᶠ natᶠ 0)) (val a *ᶠ G c (val lo) (val hi)) insideError
+      picked : List Fraction
+      picked = pick (ltb first (suc c)) (val left) ∷ pick (ltb (first + 1) (suc c)) (val right) ∷ natᶠ 0 ∷ val a *ᶠ G c (val lo) (val hi) ∷ []
+
+      go : Dec (first ≤ c) → Dec (suc first ≤ c)
+          → Near (pick (ltb first (suc c)) (val left) +ᶠ (pick (ltb (first + 1) (suc c)) (val right) +ᶠ natᶠ 0)) (val a *ᶠ G c (val lo) (val hi)) insideError
       go (no f) k =
-          let right-of : natᶠ (suc c) ≤ᶠ val lo = trans (record { le = omega (arith, f) }) from in
-          let g = trans≈ (mul-cong (val a) (G-right c (val lo) (val hi) right-of (trans right-of order))) (mul-comm (val a) (natᶠ 0)) in
-          over (pick (ltb first (suc c)) (val left) ∷ pick (ltb (first + 1) (suc c)) (val right) ∷ natᶠ 0 ∷ val a *ᶠ G c (val lo) (val hi) ∷ natᶠ 0 *ᶠ val a ∷ insideError ∷ []) (λ N n X Y Z W O T.
+          let right-of : natᶠ (suc c) ≤ᶠ val lo = trans (record { le = omega (arith, f) }) (piece .from) in
+          let g = trans≈ (mul-cong (val a) (G-right c (val lo) (val hi) right-of (trans right-of (piece .order)))) (mul-comm (val a) (natᶠ 0)) in
+          over (picked ++ (natᶠ 0 *ᶠ val a ∷ insideError ∷ [])) (λ N n X Y Z W O T.
           let i = at-eq N X Z (pick-out first (suc c) (val left) (omega (arith, f))) in
           let j = at-eq N Y Z (pick-out (first + 1) (suc c) (val right) (omega (arith, f))) in
           let k = at-eq N W O g in
@@ -165,8 +187,8 @@ module _ (lo hi : Float) (first : ℕ) (a : Float) (Lo : Num lo (natᶠ 4096)) (
           })
       go (yes h) (no f) =
           let e : c ≡ first = omega (arith, h, f) in
-          let g : G c (val lo) (val hi) ≈ᶠ natᶠ 1 -ᶠ M = subst (λ (t : ℕ). G t (val lo) (val hi) ≈ᶠ natᶠ 1 -ᶠ M) (sym e) (G-inside first (val lo) (val hi) order from to) in
-          over (pick (ltb first (suc c)) (val left) ∷ pick (ltb (first + 1) (suc c)) (val right) ∷ natᶠ 0 ∷ val a *ᶠ G c (val lo) (val hi) ∷ val a *ᶠ (natᶠ 1 -ᶠ M) ∷ insideError ∷ val left ∷ singleError ∷ []) (λ N n X Y Z W O T L Q.
+          let g : G c (val lo) (val hi) ≈ᶠ natᶠ 1 -ᶠ M = subst (λ (t : ℕ). G t (val lo) (val hi) ≈ᶠ natᶠ 1 -ᶠ M) (sym e) (G-inside first (val lo) (val hi) (piece .order) (piece .from) (piece .to)) in
+          over (picked ++ (val a *ᶠ (natᶠ 1 -ᶠ M) ∷ insideError ∷ val left ∷ singleError ∷ [])) (λ N n X Y Z W O T L Q.
           let i = at-eq N X L (pick-in first (suc c) (val left) (omega (arith, h))) in
           let j = at-eq N Y Z (pick-out (first + 1) (suc c) (val right) (omega (arith, f))) in
           let k = at-eq N W O (mul-cong (val a) g) in
@@ -175,9 +197,9 @@ module _ (lo hi : Float) (first : ℕ) (a : Float) (Lo : Num lo (natᶠ 4096)) (
             hi = le-at N (search at) (search at) n (omega (arith, i, j, k, Z .is, T .is, Q .is, at-le N L (add-at N O Q) (left-near .hi)));
           })
       go (yes h) (yes f) =
-          let left-of : val hi ≤ᶠ natᶠ c = trans to (record { le = omega (arith, f) }) in
-          let g : val a *ᶠ G c (val lo) (val hi) ≈ᶠ val a = trans≈ (mul-cong (val a) (G-left c (val lo) (val hi) (trans order left-of) left-of)) (mul-one (val a)) in
-          over (pick (ltb first (suc c)) (val left) ∷ pick (ltb (first + 1) (suc c)) (val right) ∷ natᶠ 0 ∷ val a *ᶠ G c (val lo) (val hi) ∷ val a ∷ insideError ∷ val left ∷ val right ∷ bothError ∷ []) (λ N n X Y Z W O T L R Q.
+          let left-of : val hi ≤ᶠ natᶠ c = trans (piece .to) (record { le = omega (arith, f) }) in
+          let g : val a *ᶠ G c (val lo) (val hi) ≈ᶠ val a = trans≈ (mul-cong (val a) (G-left c (val lo) (val hi) (trans (piece .order) left-of) left-of)) (mul-one (val a)) in
+          over (picked ++ (val a ∷ insideError ∷ val left ∷ val right ∷ bothError ∷ [])) (λ N n X Y Z W O T L R Q.
           let i = at-eq N X L (pick-in first (suc c) (val left) (omega (arith, h))) in
           let j = at-eq N Y R (pick-in (first + 1) (suc c) (val right) (omega (arith, f))) in
           let k = at-eq N W O g in
@@ -199,4 +221,4 @@ module _ (lo hi : Float) (first : ℕ) (a : Float) (Lo : Num lo (natᶠ 4096)) (
   }
     where
       least : (k : ℕ) → natᶠ k ≤ᶠ val lo → k ≤ first
-      least k h = over (natᶠ k ∷ natᶠ (suc first) ∷ val lo ∷ []) (λ N n K Q L. le-of-suc-le-suc (lt-of-mul-lt-mul-right N (omega (arith, K .is, Q .is, at-le N K L h, at-lt N L Q n below))))
+      least k h = over (natᶠ k ∷ natᶠ (suc first) ∷ val lo ∷ []) (λ N n K Q L. le-of-suc-le-suc (lt-of-mul-lt-mul-right N (omega (arith, K .is, Q .is, at-le N K L h, at-lt N L Q n (piece .below)))))

@@ -1,5 +1,6 @@
--- The edge lemma: the piece of an edge in a row that it crosses is one span, of an exact signed height between two places; its entries are near the edge's exact part in
--- each cell, and none lies left of where the edge is. Assumes nothing.
+-- The edge lemma: the piece of an edge in a row that it crosses is one span, of an exact signed height between two
+-- places; its entries are near the edge's exact part in each cell, and none lies left of where the edge is. Assumes
+-- nothing.
 use mathlib.Core.Path.{_≡_, refl, sym, ap, _∙_, subst}
 use mathlib.Core.Logic.{_⊎_, inl, inr}
 use mathlib.Core.List.{List, [], _∷_}
@@ -21,8 +22,7 @@ use Rattle.rounding.specs.Value.{val}
 use Rattle.rounding.proofs.Round.{near-to}
 use Rattle.rounding.proofs.Ops.{val-neg, finite-neg}
 use Rattle.rounding.proofs.Exactly.{mul-exact}
-use Rattle.words.specs.Words.{Point}
-use Rattle.words.specs.Writer.{NearPoint}
+use Rattle.word_list.specs.Words.{Point}
 use Rattle.winding.specs.Winding.{exactCoordinate, exactPoint, exactPart, crossing, crosses}
 use Rattle.winding.proofs.MeanOf.{G}
 use Rattle.winding.proofs.Cells.{G-near, G-right}
@@ -33,16 +33,17 @@ use Rattle.float.specs.Simple.{minOf, maxOf}
 use Rattle.float.specs.Whole.{ofWhole}
 use Rattle.row.specs.Row.{Cells}
 use Rattle.edge.specs.declared.Edge.{Edge}
-use Rattle.edge.specs.Edges.{coordinateOf, slopedOf, edgeOf, atOf, pieceOf, piecesOf}
+use Rattle.edge.specs.Edges.{slopedOf, edgeBetween, atOf, pieceOf, piecesOf}
+use Rattle.contour.specs.Contours.{coordinateOf}
 use Rattle.bound.specs.Counted.{leftOf, reaches}
 use Rattle.bound.proofs.Entries.{Entry, Fine, From, added, tally, count, worth, size, here, before, anywhere, prefix, total}
 use Rattle.bound.proofs.Model.{spanE, span-is}
 use Rattle.bound.proofs.Adds.{Adds, spanError, spanExcess, placeError, edgeError, mass}
 use Rattle.bound.proofs.Numbers.{Num, Exact, exact-same, one-is, whole-is, lt-yes, lt-do, eq-yes, min-is, max-is}
 use Rattle.bound.proofs.Span.{span-adds}
-use Rattle.bound.proofs.Edges.{WordEdge, NearEdge, exactOf, floatOf}
+use Rattle.bound.proofs.Edges.{WordEdge, EdgeInLimit, exactOf, floatOf}
 use Rattle.bound.proofs.Active.{coordinate-is, kept}
-use Rattle.bound.proofs.Place.{coordinate-at, nat-at, difference, edgeFrom, place}
+use Rattle.bound.proofs.Place.{coordinate-at, nat-at, difference, edgeFrom, Downward, place}
 
 -- ---- a sign: negative where s is true
 abbrev pub turn : Bool → Fraction → Fraction
@@ -112,9 +113,14 @@ pub record EdgeFacts (w h row : ℕ) (r : WordEdge) : Type 0 where
   pub near : (c : ℕ) → c < w → Near (tally worth (before (suc c)) (entriesOf w h row r)) (exactPart (exactOf r) c row) edgeError
   pub away : (c : ℕ) → T (not (reaches (exactOf r) c row)) → From (suc c) (entriesOf w h row r) × (exactPart (exactOf r) c row ≈ᶠ natᶠ 0)
 
+-- a row of a mask
+pub record RowIn (w h row : ℕ) : Type 0 where
+  pub narrow : w ≤ 4096
+  pub low : h ≤ 4096
+  pub inside : row < h
+
 -- ---- from its upper end to its lower one
-module _ (w h row : ℕ) (u v : Point) (s : Bool) (W : w ≤ 4096) (H : h ≤ 4096) (l : row < h) (nu : NearPoint u) (nv : NearPoint v)
-    (down : exactCoordinate (u .y) <ᶠ exactCoordinate (v .y)) (cuts : top (exactPoint u) row <ᶠ bottom (exactPoint v) row) where
+module _ (w h row : ℕ) (u v : Point) (s : Bool) (in-mask : RowIn w h row) (edge : Downward u v) (cuts : top (exactPoint u) row <ᶠ bottom (exactPoint v) row) where
   abbrev P : Fraction
   P = top (exactPoint u) row
 
@@ -122,13 +128,14 @@ module _ (w h row : ℕ) (u v : Point) (s : Bool) (W : w ≤ 4096) (H : h ≤ 40
   Q = bottom (exactPoint v) row
 
   P-is : Exact P (topF u row)
-  P-is = max-is (coordinate-is (u .y) (nu .1)) (whole-is row (omega arith))
+  P-is = max-is (coordinate-is (u .y) (edge .upper .1)) (whole-is row (omega arith))
 
   Q-is : Exact Q (endF v h row)
-  Q-is = exact-same same (min-is (min-is (whole-is (suc row) (omega arith)) (coordinate-is (v .y) (nv .1))) (whole-is h (omega arith)))
+  Q-is = exact-same same (min-is (min-is (whole-is (suc row) (omega arith)) (coordinate-is (v .y) (edge .lower .1))) (whole-is h (omega arith)))
     where
       same : minᶠ (minᶠ (natᶠ (suc row)) (exactCoordinate (v .y))) (natᶠ h) ≈ᶠ Q
-      same = over (natᶠ (suc row) ∷ exactCoordinate (v .y) ∷ natᶠ h ∷ []) (λ N n S B C. eq-at N (min-at N n (min-at N n S B) C) (min-at N n B S) n (omega (arith, at-le N S C (nat-le {m = suc row} {n = h} l))))
+      same = over (natᶠ (suc row) ∷ exactCoordinate (v .y) ∷ natᶠ h ∷ []) (λ N n S B C.
+          eq-at N (min-at N n (min-at N n S B) C) (min-at N n B S) n (omega (arith, at-le N S C (nat-le {m = suc row} {n = h} (in-mask .inside)))))
 
   P-at : At 256 P
   P-at = max-at 256 (lit≤ tt) (coordinate-at (u .y)) (nat-at row)
@@ -177,17 +184,17 @@ module _ (w h row : ℕ) (u v : Point) (s : Bool) (W : w ≤ 4096) (H : h ≤ 40
   Xq = crossing (exactPoint u) (exactPoint v) Q
 
   at-top : Num xp (natᶠ 4097) × Near (val xp) Xp placeError
-  at-top = place u v (way s) (topF u row) P nu nv down P-is P-at (max-ge-left (exactCoordinate (u .y)) (natᶠ row)) (trans (of-lt cuts) (min-le-left (exactCoordinate (v .y)) (natᶠ (suc row))))
+  at-top = place u v (way s) (topF u row) P edge P-is P-at (max-ge-left (exactCoordinate (u .y)) (natᶠ row)) (trans (of-lt cuts) (min-le-left (exactCoordinate (v .y)) (natᶠ (suc row))))
 
   at-end : Num xq (natᶠ 4097) × Near (val xq) Xq placeError
-  at-end = place u v (way s) (endF v h row) Q nu nv down Q-is Q-at (trans (max-ge-left (exactCoordinate (u .y)) (natᶠ row)) (of-lt cuts)) (min-le-left (exactCoordinate (v .y)) (natᶠ (suc row)))
+  at-end = place u v (way s) (endF v h row) Q edge Q-is Q-at (trans (max-ge-left (exactCoordinate (u .y)) (natᶠ row)) (of-lt cuts)) (min-le-left (exactCoordinate (v .y)) (natᶠ (suc row)))
 
   -- ---- what is added
   abbrev L : List Entry
   L = spanE w 3 xp xq a
 
   adds : Adds w 2 L (val xp) (val xq) (val a) spanError spanExcess
-  adds = span-adds w W 0 xp xq a (at-top .0) (at-end .0) (record { fine = area-is .fine; held = area-is .held; within = area-within })
+  adds = span-adds w (in-mask .narrow) 0 xp xq a (at-top .0) (at-end .0) (record { fine = area-is .fine; held = area-is .held; within = area-within })
 
   size-le : tally size anywhere L ≤ᶠ mass
   unfolding total
@@ -239,7 +246,7 @@ module _ (w h row : ℕ) (u v : Point) (s : Bool) (W : w ≤ 4096) (H : h ≤ 40
   }
 
 -- ---- EVERY EDGE THAT CROSSES A ROW
-module _ (w h row : ℕ) (r : WordEdge) (W : w ≤ 4096) (H : h ≤ 4096) (l : row < h) (m : NearEdge r) (t : T (crosses (exactOf r) row)) where
+module _ (w h row : ℕ) (r : WordEdge) (in-mask : RowIn w h row) (m : EdgeInLimit r) (t : T (crosses (exactOf r) row)) where
   abbrev p : Point
   p = r .«from»
 
@@ -264,10 +271,11 @@ module _ (w h row : ℕ) (r : WordEdge) (W : w ≤ 4096) (H : h ≤ 4096) (l : r
   cond-no false x y k = refl
 
   -- the engine makes the edge
-  made : (u v : Point) (d : Float) → NearPoint u → NearPoint v → exactCoordinate (u .y) <ᶠ exactCoordinate (v .y) → top (exactPoint u) row <ᶠ bottom (exactPoint v) row
+  made : {u v : Point} (d : Float) → Downward u v → top (exactPoint u) row <ᶠ bottom (exactPoint v) row
       → slopedOf h (coordinateOf (u .x)) (coordinateOf (u .y)) (coordinateOf (v .x)) (coordinateOf (v .y)) d ≡ edgeFrom u v d ∷ []
-  made u v d nu nv o k =
-      kept h row (coordinateOf (u .x)) (coordinateOf (u .y)) (coordinateOf (v .x)) (coordinateOf (v .y)) d (exactCoordinate (u .y)) (exactCoordinate (v .y)) H l (coordinate-is (u .y) (nu .1)) (coordinate-is (v .y) (nv .1)) o
+  made {u} {v} d edge k =
+      kept h row (coordinateOf (u .x)) (coordinateOf (u .y)) (coordinateOf (v .x)) (coordinateOf (v .y)) d (exactCoordinate (u .y)) (exactCoordinate (v .y))
+      (in-mask .low) (in-mask .inside) (coordinate-is (u .y) (edge .upper .1)) (coordinate-is (v .y) (edge .lower .1)) (edge .down)
       (λ (es : List Edge). es ≡ edgeFrom u v d ∷ []) (λ f g. refl)
       (λ f. absurd (f (lt-le (le-lt (max-ge-left (exactCoordinate (u .y)) (natᶠ row)) k) (min-le-right (exactCoordinate (v .y)) (natᶠ (suc row))))
       (lt-le (le-lt (max-ge-right (exactCoordinate (u .y)) (natᶠ row)) k) (min-le-left (exactCoordinate (v .y)) (natᶠ (suc row))))))
@@ -284,25 +292,32 @@ module _ (w h row : ℕ) (r : WordEdge) (W : w ≤ 4096) (H : h ≤ 4096) (l : r
   abbrev ups : List Edge
   ups = slopedOf h (coordinateOf (r .to .x)) (coordinateOf (r .to .y)) (coordinateOf (r .«from» .x)) (coordinateOf (r .«from» .y)) f-1
 
+  -- the engine's tests: it is level, and y grows along the contour
+  abbrev level : Bool
+  level = eq (coordinateOf (r .«from» .y)) (coordinateOf (r .to .y))
+
+  abbrev falls : Bool
+  falls = lt (coordinateOf (r .«from» .y)) (coordinateOf (r .to .y))
+
   -- y grows along the contour
   facts-down : A <ᶠ B → EdgeFacts w h row r
-  unfolding edgeOf
+  unfolding edgeBetween
   facts-down o =
       let k = crosses-down (exactOf r) row o t in
-      facts w h row p q false W H l (m .«from») (m .to) o k r
-      (cond-no (eq (coordinateOf (r .«from» .y)) (coordinateOf (r .to .y))) [] (cond (lt (coordinateOf (r .«from» .y)) (coordinateOf (r .to .y))) downs ups) (λ e. lt-not-le o (of-eq (sym≈ (eq-yes a0 b0 e))))
-      ∙ cond-yes (lt (coordinateOf (r .«from» .y)) (coordinateOf (r .to .y))) downs ups (lt-do a0 b0 o) ∙ made p q f1 (m .«from») (m .to) o k)
+      let edge : Downward p q = record { upper = m .«from»; lower = m .to; down = o } in
+      facts w h row p q false in-mask edge k r
+      (cond-no level [] (cond falls downs ups) (λ e. lt-not-le o (of-eq (sym≈ (eq-yes a0 b0 e)))) ∙ cond-yes falls downs ups (lt-do a0 b0 o) ∙ made f1 edge k)
       (λ c. to-eq (part-down-is (exactPoint p) (exactPoint q) c row o k))
       (λ c. cond-yes (ltᵇ A B) (leftOf (exactPoint p) (exactPoint q) c row) (leftOf (exactPoint q) (exactPoint p) c row) (of-less A B o))
 
   -- y falls
   facts-up : B <ᶠ A → EdgeFacts w h row r
-  unfolding edgeOf
+  unfolding edgeBetween
   facts-up o =
       let k = crosses-up (exactOf r) row o t in
-      facts w h row q p true W H l (m .to) (m .«from») o k r
-      (cond-no (eq (coordinateOf (r .«from» .y)) (coordinateOf (r .to .y))) [] (cond (lt (coordinateOf (r .«from» .y)) (coordinateOf (r .to .y))) downs ups) (λ e. lt-not-le o (of-eq (eq-yes a0 b0 e)))
-      ∙ cond-no (lt (coordinateOf (r .«from» .y)) (coordinateOf (r .to .y))) downs ups (λ e. lt-not-le o (of-lt (lt-yes a0 b0 e))) ∙ made q p f-1 (m .to) (m .«from») o k)
+      let edge : Downward q p = record { upper = m .to; lower = m .«from»; down = o } in
+      facts w h row q p true in-mask edge k r
+      (cond-no level [] (cond falls downs ups) (λ e. lt-not-le o (of-eq (eq-yes a0 b0 e))) ∙ cond-no falls downs ups (λ e. lt-not-le o (of-lt (lt-yes a0 b0 e))) ∙ made f-1 edge k)
       (λ c. to-eq (part-up-is (exactPoint p) (exactPoint q) c row o k))
       (λ c. cond-no (ltᵇ A B) (leftOf (exactPoint p) (exactPoint q) c row) (leftOf (exactPoint q) (exactPoint p) c row) (λ e. lt-not-le o (of-lt (lit<ᶠ {x = A} {y = B} e))))
 

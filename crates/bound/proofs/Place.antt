@@ -1,5 +1,5 @@
--- Where the engine has an edge at a height is near its crossing. Differences of coordinates are exact; the slope, its product with the height and the sum are rounded
--- (rounding/proofs/Uses.antt). Assumes nothing.
+-- Where the engine has an edge at a height is near its crossing. Differences of coordinates are exact; the slope, its
+-- product with the height and the sum are rounded (rounding/proofs/Uses.antt). Assumes nothing.
 use mathlib.Core.Path.{_≡_, refl}
 use mathlib.Core.List.{[], _∷_}
 use mathlib.Core.Bool.{false}
@@ -19,13 +19,14 @@ use Rattle.rounding.specs.Value.{val}
 use Rattle.rounding.proofs.Round.{near-to}
 use Rattle.rounding.proofs.Exactly.{sub-exact}
 use Rattle.rounding.proofs.Uses.{crossing-near}
-use Rattle.words.specs.Words.{Point, beyond}
-use Rattle.words.specs.Writer.{NearPoint}
+use Rattle.word_list.specs.Words.{Point, beyond}
+use Rattle.word_list.specs.Writer.{PointInLimit}
 use Rattle.winding.specs.Winding.{exactCoordinate, exactPoint, crossing}
 use Rattle.winding.proofs.Part.{crossing-within}
 use Rattle.float.specs.Ops.{_⊖_, _⊗_, _⊘_}
 use Rattle.edge.specs.declared.Edge.{Edge}
-use Rattle.edge.specs.Edges.{coordinateOf, atOf}
+use Rattle.edge.specs.Edges.{atOf}
+use Rattle.contour.specs.Contours.{coordinateOf}
 use Rattle.bound.proofs.Adds.{placeError}
 use Rattle.bound.proofs.Numbers.{Num, Exact}
 use Rattle.bound.proofs.Active.{pos-near, negsuc-near, coordinate-is}
@@ -66,8 +67,14 @@ edgeFrom u v d = record {
   down = d;
 }
 
+-- an edge from its upper end u to its lower end v
+pub record Downward (u v : Point) : Type 0 where
+  pub upper : PointInLimit u
+  pub lower : PointInLimit v
+  pub down : exactCoordinate (u .y) <ᶠ exactCoordinate (v .y)
+
 -- ---- THE PLACE, at a height Y on the edge
-module _ (u v : Point) (d y : Float) (Y : Fraction) (nu : NearPoint u) (nv : NearPoint v) (down : exactCoordinate (u .y) <ᶠ exactCoordinate (v .y)) (e : Exact Y y) (Z : At 256 Y)
+module _ (u v : Point) (d y : Float) (Y : Fraction) (edge : Downward u v) (e : Exact Y y) (Z : At 256 Y)
     (from : exactCoordinate (u .y) ≤ᶠ Y) (to : Y ≤ᶠ exactCoordinate (v .y)) where
   abbrev Xa : Fraction
   Xa = exactCoordinate (u .x)
@@ -91,31 +98,32 @@ module _ (u v : Point) (d y : Float) (Y : Fraction) (nu : NearPoint u) (nv : Nea
   dt = y ⊖ coordinateOf (u .y)
 
   xa : Exact Xa (coordinateOf (u .x))
-  xa = coordinate-is (u .x) (nu .0)
+  xa = coordinate-is (u .x) (edge .upper .0)
 
   dx-is : Exact DX dx
-  dx-is = coordinates (v .x) (u .x) (nv .0) (nu .0)
+  dx-is = coordinates (v .x) (u .x) (edge .lower .0) (edge .upper .0)
 
   dy-is : Exact DY dy
-  dy-is = coordinates (v .y) (u .y) (nv .1) (nu .1)
+  dy-is = coordinates (v .y) (u .y) (edge .lower .1) (edge .upper .1)
 
   dt-is : Exact DT dt
   dt-is =
       let p = at-le 256 (coordinate-at (u .y)) Z from in
       let q = at-le 256 Z (coordinate-at (v .y)) to in
-      let r = word-range (u .y) (nu .1) in
-      let s = word-range (v .y) (nv .1) in
-      difference e (coordinate-is (u .y) (nu .1)) Z (coordinate-at (u .y)) (small (Z .z) (ofℤ (u .y)) (ofℤ (v .y)) p q (r .0) (s .1))
+      let r = word-range (u .y) (edge .upper .1) in
+      let s = word-range (v .y) (edge .lower .1) in
+      difference e (coordinate-is (u .y) (edge .upper .1)) Z (coordinate-at (u .y)) (small (Z .z) (ofℤ (u .y)) (ofℤ (v .y)) p q (r .0) (s .1))
     where
       small : (a b c : Whole) → b ≤ʷ a → a ≤ʷ c → negʷ (natʷ 1048576) ≤ʷ b → c ≤ʷ natʷ 1048576 → sizeʷ (a -ʷ b) < 2 ^ 24
       small a b c h k l m = omega (arith, lit≤ {m = 2097153} {n = 2 ^ 24} tt)
 
   DY-pos : natᶠ 0 <ᶠ DY
-  DY-pos = sub-above down
+  DY-pos = sub-above (edge .down)
 
   -- at least 1 / 256, so its reciprocal is at most 256
   DY-ge : 1 /2^ 8 ≤ᶠ DY
-  DY-ge = le-at 256 (self (1 /2^ 8)) (sub-at 256 (coordinate-at (v .y)) (coordinate-at (u .y))) (lit≤ tt) (omega (arith, at-lt 256 (coordinate-at (u .y)) (coordinate-at (v .y)) (lit≤ tt) down))
+  DY-ge = le-at 256 (self (1 /2^ 8)) (sub-at 256 (coordinate-at (v .y)) (coordinate-at (u .y))) (lit≤ tt)
+      (omega (arith, at-lt 256 (coordinate-at (u .y)) (coordinate-at (v .y)) (lit≤ tt) (edge .down)))
 
   abbrev I : Fraction
   I = invᶠ DY
@@ -134,11 +142,12 @@ module _ (u v : Point) (d y : Float) (Y : Fraction) (nu : NearPoint u) (nv : Nea
       (trans (of-eq (mul-comm DY I)) (of-eq (inv-mul DY (above-not DY-pos)))))
 
   DX-within : Within DX (natᶠ 8192)
-  DX-within = within-weaken (within-sub (coordinate-within (v .x) (nv .0)) (coordinate-within (u .x) (nu .0))) (unfold _+ᶠ_ in lit tt)
+  DX-within = within-weaken (within-sub (coordinate-within (v .x) (edge .lower .0)) (coordinate-within (u .x) (edge .upper .0))) (unfold _+ᶠ_ in lit tt)
 
   DT-within : Within DT (natᶠ 8192)
-  DT-within = within-weaken (within-self (sub-nonneg from)) (trans (over (Y ∷ exactCoordinate (u .y) ∷ exactCoordinate (v .y) ∷ []) (λ N n C A B. le-at N (sub-at N C A) (sub-at N B A) n (omega (arith, at-le N C B to))))
-      (trans ((within-sub (coordinate-within (v .y) (nv .1)) (coordinate-within (u .y) (nu .1))) .hi) (unfold _+ᶠ_ in lit tt)))
+  DT-within = within-weaken (within-self (sub-nonneg from)) (trans (over (Y ∷ exactCoordinate (u .y) ∷ exactCoordinate (v .y) ∷ []) (λ N n C A B.
+      le-at N (sub-at N C A) (sub-at N B A) n (omega (arith, at-le N C B to))))
+      (trans ((within-sub (coordinate-within (v .y) (edge .lower .1)) (coordinate-within (u .y) (edge .upper .1))) .hi) (unfold _+ᶠ_ in lit tt)))
 
   -- ---- the same of the floats' values
   dy-not : ¬ (val dy ≈ᶠ natᶠ 0)
@@ -161,7 +170,7 @@ module _ (u v : Point) (d y : Float) (Y : Fraction) (nu : NearPoint u) (nv : Nea
   same = cong-add (xa .eq) (cong-mul (dt-is .eq) slope-is)
 
   cross-within : Within (crossing (exactPoint u) (exactPoint v) Y) (natᶠ 4096)
-  cross-within = crossing-within (exactPoint u) (exactPoint v) Y (natᶠ 4096) down from to (coordinate-within (u .x) (nu .0)) (coordinate-within (v .x) (nv .0))
+  cross-within = crossing-within (exactPoint u) (exactPoint v) Y (natᶠ 4096) (edge .down) from to (coordinate-within (u .x) (edge .upper .0)) (coordinate-within (v .x) (edge .lower .0))
 
   pub place : Num (atOf (edgeFrom u v d) y) (natᶠ 4097) × Near (val (atOf (edgeFrom u v d) y)) (crossing (exactPoint u) (exactPoint v) Y) placeError
   place =

@@ -1,5 +1,5 @@
--- Products and quotients by their relative errors (rounding/proofs/Relative.antt), with sizes and errors that are literals: one test that computes decides them all.
--- Assumes nothing.
+-- Products and quotients by their relative errors (rounding/proofs/Relative.antt), with sizes and errors that are
+-- literals: one test that computes decides them all. Assumes nothing.
 use mathlib.Core.List.{[], _∷_}
 use Prim.Native.Nat.{_^_}
 use native.Mathlib.Omega.{arith}
@@ -49,7 +49,8 @@ approx-known b e h p w l = record { fine = h .fine; held = h .held; near = near-
 abbrev pub leafOf : {x : Float} {X b e : Fraction} → Known binary32 x X b e → Leaf binary32
 leafOf {x} {X} {b} {e} h = record { x = x; X = X; b = b; e = e; is = h }
 
--- ---- a product: factors of sizes b and c, with errors r, t and s, v; the product's are r' and t'. The eight tests compute for literals
+-- ---- a product: factors of sizes b and c, with errors r, t and s, v; the product's are r' and t'. The eight tests
+-- compute for literals
 unfoldable pub Fit : Fraction → Fraction → Fraction → Fraction → Fraction → Fraction → Fraction → Fraction → Type 0
 unfolding _+ᶠ_ _*ᶠ_
 Fit r t b s v c r' t' =
@@ -64,7 +65,8 @@ product {x} {y} {X} {Y} {r} {t} {s} {v} b c r' t' A B wx wy k =
     approx-weaken (lit (k .6)) (lit (k .7))
     (mul-approx binary32 x y X Y r t b s v c A B (record { r0 = lit (k .0); s0 = lit (k .1); t0 = lit (k .2); v0 = lit (k .3); both0 = lit (k .4) }) wx wy (lit (k .5)))
 
--- ---- a quotient of size 1 at most, of two numbers with one rounding each. The divisor may be as small as a float can be
+-- ---- a quotient of size 1 at most, of two numbers with one rounding each. The divisor may be as small as a float can
+-- be
 abbrev u : Fraction
 u = roundoff binary32
 
@@ -72,7 +74,7 @@ u = roundoff binary32
 abbrev w : Fraction
 w = 17 /2^ 28
 
-module _ (x y : Float) (X Y Q : Fraction) (A : Approx binary32 x X u (natᶠ 0)) (B : Approx binary32 y Y u (natᶠ 0)) (some : ¬ (Y ≈ᶠ natᶠ 0)) (is : Q *ᶠ Y ≈ᶠ X) (Q1 : Within Q (natᶠ 1)) where
+module _ {x y : Float} {X Y Q : Fraction} (A : Approx binary32 x X u (natᶠ 0)) (B : Approx binary32 y Y u (natᶠ 0)) (some : ¬ (Y ≈ᶠ natᶠ 0)) (is : Q *ᶠ Y ≈ᶠ X) (Q1 : Within Q (natᶠ 1)) where
   divisor : ¬ (val y ≈ᶠ natᶠ 0)
   divisor = rel-not (lit tt) (B .rel) some
 
@@ -98,7 +100,8 @@ module _ (x y : Float) (X Y Q : Fraction) (A : Approx binary32 x X u (natᶠ 0))
 
   pub quotient : Known binary32 (x ⊘ y) Q (natᶠ 1) quotientError
   quotient =
-      let r = div-rounds binary32 x y (val x *ᶠ invᶠ (val y)) (A .fine) (B .fine) divisor (trans≈ (mul-assoc (val x) (invᶠ (val y)) (val y)) (trans≈ (mul-cong (val x) (inv-mul (val y) divisor)) (mul-one (val x))))
+      let r = div-rounds binary32 x y (val x *ᶠ invᶠ (val y)) (A .fine) (B .fine) divisor
+      (trans≈ (mul-assoc (val x) (invᶠ (val y)) (val y)) (trans≈ (mul-cong (val x) (inv-mul (val y) divisor)) (mul-one (val x))))
       (within-weaken (within-near quotient-near Q1) (unfold _+ᶠ_ in lit tt)) in
       record { fine = r .fine; held = div-fits binary32 x y; near = near-weaken (step r quotient-near Q1) (unfold _+ᶠ_ _*ᶠ_ in lit tt); within = Q1 }
 
@@ -117,7 +120,7 @@ module _ (N D : Fraction) (N0 : natᶠ 0 ≤ᶠ N) (D0 : natᶠ 0 <ᶠ D) (N≤D
   part-hi = trans (mul-mono-right (inv-nonneg D D0) N≤D) (trans (of-eq (mul-comm D (invᶠ D))) (of-eq (inv-mul D (above-not D0))))
 
 -- ---- the height times a part, and times the rest
-module _ (a o : Float) (O : Fraction) (A : Num a cutTwice) (h : Known binary32 o O (natᶠ 1) quotientError) (O0 : natᶠ 0 ≤ᶠ O) (O1 : O ≤ᶠ natᶠ 1) where
+module _ {a o : Float} {O : Fraction} (A : Num a cutTwice) (h : Known binary32 o O (natᶠ 1) quotientError) (O0 : natᶠ 0 ≤ᶠ O) (O1 : O ≤ᶠ natᶠ 1) where
   pub cut-in : T (finite (a ⊗ o)) × Near (val (a ⊗ o)) (val a *ᶠ O) cutError
   unfolding _+ᶠ_ _*ᶠ_
   cut-in = let d = analyse (op times auto (leaf (sized a cutTwice A)) (leaf (leafOf h))) tt (tt, tt, tt, tt) in (d .fine, near-weaken (d .near) (lit tt))

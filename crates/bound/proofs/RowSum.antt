@@ -1,5 +1,6 @@
--- The sum lemma: the edges of a row, each with its entries, its exact part in a cell and whether it counts for that cell; the winding against the sum of the parts. An edge that
--- has no entry at the cell or left of it, and no part in it, need not count. Assumes nothing.
+-- The sum lemma: the edges of a row, each with its entries, its exact part in a cell and whether it counts for that
+-- cell; the winding against the sum of the parts. An edge that has no entry at the cell or left of it, and no part in
+-- it, need not count. Assumes nothing.
 use mathlib.Core.Path.{subst}
 use mathlib.Core.List.{List, [], _∷_, _++_}
 use mathlib.Core.Bool.{Bool, true, false, not, cond}
@@ -7,7 +8,7 @@ use Prim.Native.Nat.{ℕ, suc, _+_, _*_, _^_, _≤_}
 use native.Mathlib.Omega.{arith}
 use lib.Dec.{T}
 use lib.ListN.{length}
-use lib.Ieee.{binary32, fits}
+use lib.Ieee.{Float, binary32, fits}
 use lib.Ieee.Scale.{finite}
 use Rattle.fraction.specs.Fraction.{Fraction, _≤ᶠ_, _≈ᶠ_, natᶠ, _+ᶠ_, _*ᶠ_, Near, Within}
 use Rattle.fraction.proofs.Linear.{at-le, at-eq, le-at, eq-at, add-at, scale-at, over, trans, lit}
@@ -16,7 +17,8 @@ use Rattle.fraction.proofs.Near.{near-refl, near-weaken, near-same, near-trans,
 use Rattle.rounding.specs.Value.{val}
 use Rattle.rounding.proofs.Round.{near-to}
 use Rattle.float.specs.Ops.{f0}
-use Rattle.bound.proofs.Entries.{Entry, Fine, From, pick, tally, count, worth, size, here, before, anywhere, tally-within, tally-append, tally-wider, count-append, fine-append, from-none, area, number, number-le, sumOver}
+use Rattle.bound.proofs.Entries.{Entry, Fine, From, pick, tally, count, worth, size, here, before, anywhere, area, number, number-le, sumOver}
+use Rattle.bound.proofs.Entries.{tally-within, tally-append, tally-wider, count-append, fine-append, from-none}
 use Rattle.bound.proofs.Adds.{edgeError, mass, windingError, sumPart}
 use Rattle.bound.proofs.WindingSum.{wind, winding-near}
 
@@ -27,13 +29,21 @@ picked true k x = over (x ∷ natᶠ k *ᶠ x ∷ natᶠ (suc k) *ᶠ x ∷ nat�
 picked false k x = over (natᶠ 0 ∷ natᶠ k *ᶠ x ∷ natᶠ (0 + k) *ᶠ x ∷ []) (λ N n O K R. eq-at N (add-at N O K) R n
     (omega (arith, O .is, at-eq N K R (subst (λ (z : ℕ). natᶠ k *ᶠ x ≈ᶠ natᶠ z *ᶠ x) (omega arith) (refl≈ (natᶠ k *ᶠ x))))))
 
+-- a winding w, near the exact x, where k edges count
+pub record Winds (w : Float) (x : Fraction) (k : ℕ) : Type 0 where
+  pub fine : T (finite w)
+  pub held : T (fits binary32 w)
+  pub near : Near (val w) x (natᶠ k *ᶠ windingError)
+  pub size : Within (val w) (natᶠ k *ᶠ natᶠ 2)
+
 -- all edges' entries
 abbrev pub flat : {E : Type 0} → (E → List Entry) → List E → List Entry
 flat entries [] = []
 flat entries (e ∷ es) = entries e ++ flat entries es
 
 module _ {E : Type 0} (entries : E → List Entry) (counts : E → Bool) (exact : E → Fraction) (n : ℕ) where
-  -- what is asked of an edge, for the cells left of n: the size of its entries, two in a cell at most, and how far they are off. One that does not count has none there
+  -- what is asked of an edge, for the cells left of n: the size of its entries, two in a cell at most, and how far they
+  -- are off. One that does not count has none there
   pub record Good (e : E) : Type 0 where
     pub fine : Fine (entries e)
     pub twice : (i : ℕ) → count (here i) (entries e) ≤ 2
@@ -75,39 +85,54 @@ module _ {E : Type 0} (entries : E → List Entry) (counts : E → Bool) (exact 
 
   all-near : (es : List E) → All es → Near (tally worth (before n) (flat entries es)) (sumOver exact es) (natᶠ (number counts es) *ᶠ edgeError)
   all-near [] g = near-weaken (near-refl (natᶠ 0)) (of-eq (sym≈ (zero-mul edgeError)))
-  all-near (e ∷ es) g = near-same (sym≈ (tally-append worth (before n) (entries e) (flat entries es))) (near-weaken (near-add (strays e (g .0)) (all-near es (g .1))) (of-eq (picked (counts e) (number counts es) edgeError)))
+  all-near (e ∷ es) g =
+      near-same (sym≈ (tally-append worth (before n) (entries e) (flat entries es)))
+      (near-weaken (near-add (strays e (g .0)) (all-near es (g .1))) (of-eq (picked (counts e) (number counts es) edgeError)))
 
   -- ---- THE ROW: the winding is off by at most `windingError` for each edge that counts
-  pub row-near : (es : List E) → All es → length es ≤ 2048 → n ≤ 4096 → T (finite (wind (λ i. area i f0 (flat entries es)) n)) × T (fits binary32 (wind (λ i. area i f0 (flat entries es)) n))
-      × Near (val (wind (λ i. area i f0 (flat entries es)) n)) (sumOver exact es) (natᶠ (number counts es) *ᶠ windingError)
-      × Within (val (wind (λ i. area i f0 (flat entries es)) n)) (natᶠ (number counts es) *ᶠ natᶠ 2)
-  row-near es g k l = (s .0, s .1, near-weaken (near-trans (s .2) (all-near es g)) sum, within-weaken (within-near (s .2) (tally-within (before n) (flat entries es))) most)
+  pub row-near : (es : List E) → All es → length es ≤ 2048 → n ≤ 4096 → Winds (wind (λ i. area i f0 (flat entries es)) n) (sumOver exact es) (number counts es)
+  row-near es g k l = record {
+    fine = s .0;
+    held = s .1;
+    near = near-weaken (near-trans (s .2) (all-near es g)) sum;
+    size = within-weaken (within-near (s .2) (tally-within (before n) (flat entries es))) most;
+  }
     where
-      m : tally size (before n) (flat entries es) ≤ᶠ natᶠ (number counts es) *ᶠ mass
+      sizes : Fraction
+      sizes = tally size (before n) (flat entries es)
+
+      w : Float
+      w = wind (λ i. area i f0 (flat entries es)) n
+
+      counted : Fraction
+      counted = natᶠ (number counts es)
+
+      m : sizes ≤ᶠ counted *ᶠ mass
       m = all-mass es g
 
-      top : tally size (before n) (flat entries es) ≤ᶠ natᶠ (2 ^ 20)
+      top : sizes ≤ᶠ natᶠ (2 ^ 20)
       top = trans m (trans (mul-mono-right {y = natᶠ 2048} (lit tt) (nat-le (omega (arith, number-le counts es, k)))) (unfold _*ᶠ_ in lit tt))
 
-      s : T (finite (wind (λ i. area i f0 (flat entries es)) n)) × T (fits binary32 (wind (λ i. area i f0 (flat entries es)) n)) × Near (val (wind (λ i. area i f0 (flat entries es)) n)) (tally worth (before n) (flat entries es)) (sumPart *ᶠ tally size (before n) (flat entries es))
+      s : T (finite w) × T (fits binary32 w) × Near (val w) (tally worth (before n) (flat entries es)) (sumPart *ᶠ sizes)
       s = winding-near (flat entries es) (all-fine es g) (λ i. omega (arith, all-twice es g i, k)) n l top
 
-      sum : sumPart *ᶠ tally size (before n) (flat entries es) +ᶠ natᶠ (number counts es) *ᶠ edgeError ≤ᶠ natᶠ (number counts es) *ᶠ windingError
-      sum = over (tally size (before n) (flat entries es) ∷ natᶠ (number counts es) ∷ natᶠ (number counts es) *ᶠ mass ∷ natᶠ (number counts es) *ᶠ edgeError ∷ natᶠ (number counts es) *ᶠ windingError ∷ mass *ᶠ natᶠ (number counts es) ∷ edgeError *ᶠ natᶠ (number counts es) ∷ windingError *ᶠ natᶠ (number counts es) ∷ sumPart *ᶠ tally size (before n) (flat entries es) ∷ []) (λ N p M K A B C A' B' C' D.
+      sum : sumPart *ᶠ sizes +ᶠ counted *ᶠ edgeError ≤ᶠ counted *ᶠ windingError
+      sum = over (sizes ∷ counted ∷ counted *ᶠ mass ∷ counted *ᶠ edgeError ∷ counted *ᶠ windingError ∷ mass *ᶠ counted ∷ edgeError *ᶠ counted ∷ windingError *ᶠ counted ∷ sumPart *ᶠ sizes ∷ [])
+          (λ N p M K A B C A' B' C' D.
           le-at N (add-at N D B) C p (omega (
             arith,
             at-le N M A m,
             scale-at N sumPart M D,
             scale-at N mass K A',
             scale-at N edgeError K B',
-            scale-at N (windingError) K C',
-            at-eq N A A' (mul-comm (natᶠ (number counts es)) mass),
-            at-eq N B B' (mul-comm (natᶠ (number counts es)) edgeError),
-            at-eq N C C' (mul-comm (natᶠ (number counts es)) (windingError)),
+            scale-at N windingError K C',
+            at-eq N A A' (mul-comm counted mass),
+            at-eq N B B' (mul-comm counted edgeError),
+            at-eq N C C' (mul-comm counted windingError),
           )))
 
-      most : tally size (before n) (flat entries es) +ᶠ sumPart *ᶠ tally size (before n) (flat entries es) ≤ᶠ natᶠ (number counts es) *ᶠ natᶠ 2
-      most = over (tally size (before n) (flat entries es) ∷ natᶠ (number counts es) ∷ natᶠ (number counts es) *ᶠ mass ∷ natᶠ (number counts es) *ᶠ natᶠ 2 ∷ mass *ᶠ natᶠ (number counts es) ∷ natᶠ 2 *ᶠ natᶠ (number counts es) ∷ sumPart *ᶠ tally size (before n) (flat entries es) ∷ natᶠ 0 ∷ []) (λ N p M K A C A' C' D O.
+      most : sizes +ᶠ sumPart *ᶠ sizes ≤ᶠ counted *ᶠ natᶠ 2
+      most = over (sizes ∷ counted ∷ counted *ᶠ mass ∷ counted *ᶠ natᶠ 2 ∷ mass *ᶠ counted ∷ natᶠ 2 *ᶠ counted ∷ sumPart *ᶠ sizes ∷ natᶠ 0 ∷ []) (λ N p M K A C A' C' D O.
           le-at N (add-at N M D) C p (omega (
             arith,
             O .is,
@@ -116,6 +141,6 @@ module _ {E : Type 0} (entries : E → List Entry) (counts : E → Bool) (exact 
             scale-at N sumPart M D,
             scale-at N mass K A',
             scale-at N (natᶠ 2) K C',
-            at-eq N A A' (mul-comm (natᶠ (number counts es)) mass),
-            at-eq N C C' (mul-comm (natᶠ (number counts es)) (natᶠ 2)),
+            at-eq N A A' (mul-comm counted mass),
+            at-eq N C C' (mul-comm counted (natᶠ 2)),
           )))

@@ -1,4 +1,5 @@
--- The fold of a winding into a share is exact in floats: it is the rule's share of the winding's value. Assumes nothing.
+-- The fold of a winding into a share is exact in floats: it is the rule's share of the winding's value. Assumes
+-- nothing.
 use mathlib.Core.Path.{_≡_, refl, sym, ap, _∙_, subst}
 use mathlib.Core.List.{[], _∷_}
 use mathlib.Core.Bool.{Bool, true, false, not, cond}
@@ -23,7 +24,7 @@ use Rattle.rounding.proofs.Base.{fits-parts}
 use Rattle.rounding.proofs.Exactly.{round-is-exact, sub-exact}
 use Rattle.float.specs.Ops.{_⊖_, f1, f2}
 use Rattle.float.specs.Simple.{absOf}
-use Rattle.row.specs.Sweep.{shareOf}
+use Rattle.sweep.specs.Bytes.{shareOf}
 use Rattle.winding.specs.Winding.{nonZeroShare, modulo2, evenOddShare}
 use Rattle.winding.proofs.Fold.{nonzero-near, nonzero-range, evenodd-near, evenodd-range}
 use Rattle.bound.proofs.Numbers.{Exact, one-is, two-is, lt-yes, lt-no, abs-is, min-is, size-signed}

@@ -1,5 +1,5 @@
--- What `span` adds to a row, for any two ends up to 4,097 in size: how far it is off in each cell, the sum of its sizes, two entries in a cell at most (only
--- in the first of the row), and nothing left of both ends. Assumes nothing.
+-- What `span` adds to a row, for any two ends up to 4,097 in size: how far it is off in each cell, the sum of its
+-- sizes, two entries in a cell at most (only in the first of the row), and nothing left of both ends. Assumes nothing.
 use mathlib.Core.List.{List, [], _∷_}
 use mathlib.Core.Bool.{Bool, true, false, not, cond}
 use Prim.Native.Nat.{ℕ, suc, _+_, _≤_}
@@ -29,7 +29,7 @@ use Rattle.bound.proofs.Model.{insideE, clipE, spanE}
 use Rattle.bound.proofs.Adds.{Adds, cutOnce, cutTwice, insideError, insideExcess, rightError, rightExcess, spanError, spanExcess, quotientError, cutError}
 use Rattle.bound.proofs.Numbers.{Num, Exact, num-weaken, num-itself, zero-is, whole-is, lt-yes, lt-no, le-yes, le-no}
 use Rattle.bound.proofs.OneCell.{size-of}
-use Rattle.bound.proofs.Products.{approx-weaken, approx-exact, approx-rounds, quotient, part, part-is, part-lo, part-hi, cut-in, cut-out}
+use Rattle.bound.proofs.Products.{approx-weaken, approx-exact, approx-rounds, quotient, part, part-is, part-lo, part-hi, cut-in, cut-out, rest-lo, rest-hi}
 use Rattle.bound.proofs.Inside.{weaken, inside-adds}
 
 module _ (w : ℕ) (small : w ≤ 4096) where
@@ -51,11 +51,13 @@ module _ (w : ℕ) (small : w ≤ 4096) where
         → (natᶠ 0 ≤ᶠ val lo → val hi ≤ᶠ natᶠ w → Q (insideE lo hi a))
         → Q (clipE W onward lo hi a)
     unfolding clipE
-    clip-cases k1 k2 k3 k4 k5 = go (le W lo) (le hi f0) (lt lo f0) (lt W hi) (le-yes W-is L) (le-no W-is L) (le-yes H zero-is) (le-no H zero-is) (lt-yes L zero-is) (lt-no L zero-is) (lt-yes W-is H) (lt-no W-is H)
+    clip-cases k1 k2 k3 k4 k5 =
+        go (le W lo) (le hi f0) (lt lo f0) (lt W hi) (le-yes W-is L) (le-no W-is L) (le-yes H zero-is) (le-no H zero-is) (lt-yes L zero-is) (lt-no L zero-is) (lt-yes W-is H) (lt-no W-is H)
       where
         go : (b1 b2 b3 b4 : Bool) → (T b1 → natᶠ w ≤ᶠ val lo) → (T (not b1) → val lo <ᶠ natᶠ w) → (T b2 → val hi ≤ᶠ natᶠ 0) → (T (not b2) → natᶠ 0 <ᶠ val hi)
             → (T b3 → val lo <ᶠ natᶠ 0) → (T (not b3) → natᶠ 0 ≤ᶠ val lo) → (T b4 → natᶠ w <ᶠ val hi) → (T (not b4) → val hi ≤ᶠ natᶠ w)
-            → Q (cond b1 [] (cond b2 (entry 0 a ∷ []) (cond b3 (entry 0 (a ⊗ outside) ∷ onward f0 hi (a ⊗ (f1 ⊖ outside))) (cond b4 (onward lo W (a ⊗ ((W ⊖ lo) ⊘ (hi ⊖ lo)))) (insideE lo hi a)))))
+            → Q (cond b1 [] (cond b2 (entry 0 a ∷ []) (cond b3 (entry 0 (a ⊗ outside) ∷ onward f0 hi (a ⊗ (f1 ⊖ outside)))
+            (cond b4 (onward lo W (a ⊗ ((W ⊖ lo) ⊘ (hi ⊖ lo)))) (insideE lo hi a)))))
         go true b2 b3 b4 f1 g1 f2 g2 f3 g3 f4 g4 = k1 (f1 tt)
         go false true b3 b4 f1 g1 f2 g2 f3 g3 f4 g4 = k2 (f2 tt)
         go false false true b4 f1 g1 f2 g2 f3 g3 f4 g4 = k3 (g2 tt) (f3 tt)
@@ -67,7 +69,10 @@ module _ (w : ℕ) (small : w ≤ 4096) where
   unfolding prefix total
   nothing-adds lo hi a m e d e0 d0 order right = record {
     fine = tt;
-    near = λ c k. near-to (sym≈ (trans≈ (mul-cong (val a) (let z : natᶠ (suc c) ≤ᶠ val lo = trans (nat-le k) right in G-right c (val lo) (val hi) z (trans z order))) (trans≈ (mul-comm (val a) (natᶠ 0)) (zero-mul (val a))))) (near-weaken (near-refl (natᶠ 0)) e0);
+    near = λ c k.
+        let z : natᶠ (suc c) ≤ᶠ val lo = trans (nat-le k) right in
+        let g = G-right c (val lo) (val hi) z (trans z order) in
+        near-to (sym≈ (trans≈ (mul-cong (val a) g) (trans≈ (mul-comm (val a) (natᶠ 0)) (zero-mul (val a))))) (near-weaken (near-refl (natᶠ 0)) e0);
     size = over (natᶠ 0 ∷ absᶠ (val a) ∷ d ∷ []) (λ N n O A D. le-at N O (add-at N A D) n (omega (arith, O .is, at-le N O A (abs-nonneg (val a)), at-le N O D d0)));
     few = λ i. omega arith;
     from = λ k p q. tt;
@@ -77,7 +82,11 @@ module _ (w : ℕ) (small : w ≤ 4096) where
   unfolding prefix total
   all-adds lo hi a m b e d m1 A e0 d0 order left = record {
     fine = (A .fine, A .held, tt);
-    near = λ c k. near-same (sym≈ (trans≈ (cong-add (pick-in 0 (suc c) (val a) (omega arith)) (refl≈ _)) (plus-none (val a)))) (near-to (sym≈ (trans≈ (mul-cong (val a) (let z : val hi ≤ᶠ natᶠ c = trans left (nat-le {m = 0} {n = c} (omega arith)) in G-left c (val lo) (val hi) (trans order z) z)) (mul-one (val a)))) (near-weaken (near-refl (val a)) e0));
+    near = λ c k.
+        let z : val hi ≤ᶠ natᶠ c = trans left (nat-le {m = 0} {n = c} (omega arith)) in
+        let g = G-left c (val lo) (val hi) (trans order z) z in
+        let p = trans≈ (cong-add (pick-in 0 (suc c) (val a) (omega arith)) (refl≈ _)) (plus-none (val a)) in
+        near-same (sym≈ p) (near-to (sym≈ (trans≈ (mul-cong (val a) g) (mul-one (val a)))) (near-weaken (near-refl (val a)) e0));
     size = over (natᶠ 0 ∷ absᶠ (val a) ∷ d ∷ []) (λ N n O X D. le-at N (add-at N X O) (add-at N X D) n (omega (arith, O .is, at-le N O D d0)));
     few = λ i. let k = rising-once i 0 (entry 0 a ∷ []) (le-refl 0, tt) in omega (arith, k, m1);
     from = λ k p q. (none k (trans q left), tt);
@@ -90,9 +99,12 @@ module _ (w : ℕ) (small : w ≤ 4096) where
   turn : {m : ℕ} {L : List Entry} {x y a e d : Fraction} → Adds w m L x y a e d → Adds w m L y x a e d
   turn {x = x} {y = y} {a = a} h = record { fine = h .fine; near = λ c k. near-to (mul-cong a (G-sym c x y)) (h .near c k); size = h .size; few = h .few; from = λ k p q. h .from k q p }
 
+  -- of a piece clipped
+  abbrev Clipped : ℕ → ℕ → Float → Float → Float → Fraction → Fraction → Type 0
+  Clipped n m lo hi a e d = Adds w m (clipE W (spanE w n) lo hi a) (val lo) (val hi) (val a) e d
+
   sorted : (n m : ℕ) (xa xb a : Float) (e d : Fraction) → Exact (val xa) xa → Exact (val xb) xb
-      → (val xa ≤ᶠ val xb → Adds w m (clipE W (spanE w n) xa xb a) (val xa) (val xb) (val a) e d)
-      → (val xb ≤ᶠ val xa → Adds w m (clipE W (spanE w n) xb xa a) (val xb) (val xa) (val a) e d)
+      → (val xa ≤ᶠ val xb → Clipped n m xa xb a e d) → (val xb ≤ᶠ val xa → Clipped n m xb xa a e d)
       → Adds w m (spanE w (suc n) xa xb a) (val xa) (val xb) (val a) e d
   unfolding spanE
   sorted n m xa xb a e d p q f g = go (le xa xb) (le-yes p q) (λ t. of-lt (le-no p q t))
@@ -106,7 +118,8 @@ module _ (w : ℕ) (small : w ≤ 4096) where
       → Adds w 1 (spanE w (suc n) xa xb a) (val xa) (val xb) (val a) insideError insideExcess
   level0 n xa xb a X Y A x0 y0 x1 y1 = sorted n 1 xa xb a insideError insideExcess (num-itself X) (num-itself Y) (clip xa xb X Y x0 y1) (clip xb xa Y X y0 x1)
     where
-      clip : (lo hi : Float) → Num lo (natᶠ 4096) → Num hi (natᶠ 4096) → natᶠ 0 ≤ᶠ val lo → val hi ≤ᶠ natᶠ w → val lo ≤ᶠ val hi → Adds w 1 (clipE W (spanE w n) lo hi a) (val lo) (val hi) (val a) insideError insideExcess
+      clip : (lo hi : Float) → Num lo (natᶠ 4096) → Num hi (natᶠ 4096) → natᶠ 0 ≤ᶠ val lo → val hi ≤ᶠ natᶠ w → val lo ≤ᶠ val hi
+          → Clipped n 1 lo hi a insideError insideExcess
       clip lo hi L H z k order = clip-cases (spanE w n) lo hi a (num-itself L) (num-itself H) (λ (l : List Entry). Adds w 1 l (val lo) (val hi) (val a) insideError insideExcess)
           (nothing-adds lo hi a 1 insideError insideExcess (lit tt) (lit tt) order)
           (all-adds lo hi a 1 cutTwice insideError insideExcess (le-refl 1) A (lit tt) (lit tt) order)
@@ -144,6 +157,12 @@ module _ (w : ℕ) (small : w ≤ 4096) where
     abbrev I : Fraction
     I = part iN iD iN0 iD0 iND
 
+    I0 : natᶠ 0 ≤ᶠ I
+    I0 = part-lo iN iD iN0 iD0 iND
+
+    I1 : I ≤ᶠ natᶠ 1
+    I1 = part-hi iN iD iN0 iD0 iND
+
     L′ : Num lo (natᶠ 4096)
     L′ = in-row lo L z (of-lt lo<w)
 
@@ -158,17 +177,19 @@ module _ (w : ℕ) (small : w ≤ 4096) where
     i′ = (W ⊖ lo) ⊘ (hi ⊖ lo)
 
     i-ok : Known binary32 i′ I (natᶠ 1) quotientError
-    i-ok = quotient (W ⊖ lo) (hi ⊖ lo) iN iD I (approx-rounds num-ok (sub-fits binary32 W lo)) (approx-rounds den-ok (sub-fits binary32 hi lo)) (above-not iD0) (part-is iN iD iN0 iD0 iND)
-        (within-weaken (within-self (part-lo iN iD iN0 iD0 iND)) (part-hi iN iD iN0 iD0 iND))
+    i-ok = quotient (approx-rounds num-ok (sub-fits binary32 W lo)) (approx-rounds den-ok (sub-fits binary32 hi lo)) (above-not iD0) (part-is iN iD iN0 iD0 iND)
+        (within-weaken (within-self I0) I1)
 
     abbrev a′ : Float
     a′ = a ⊗ i′
 
     a-ok : T (finite a′) × Near (val a′) (val a *ᶠ I) cutError
-    a-ok = cut-in a i′ I (num-weaken (lit tt) A) i-ok (part-lo iN iD iN0 iD0 iND) (part-hi iN iD iN0 iD0 iND)
+    a-ok = cut-in (num-weaken (lit tt) A) i-ok I0 I1
 
     a-num : Num a′ cutTwice
-    a-num = record { fine = a-ok .0; held = mul-fits binary32 a i′; within = within-weaken (within-near (a-ok .1) (within-mul (A .within) (within-weaken (within-self (part-lo iN iD iN0 iD0 iND)) (part-hi iN iD iN0 iD0 iND)))) (unfold _+ᶠ_ _*ᶠ_ in lit tt) }
+    a-num =
+        let near = within-near (a-ok .1) (within-mul (A .within) (within-weaken (within-self I0) I1)) in
+        record { fine = a-ok .0; held = mul-fits binary32 a i′; within = within-weaken near (unfold _+ᶠ_ _*ᶠ_ in lit tt) }
 
     inner : Adds w 1 (spanE w (suc n) lo W a′) (val lo) (val W) (val a′) insideError insideExcess
     inner = level0 n lo W a′ L′ W-num a-num z (trans (record { le = omega arith }) (of-eq (sym≈ (W-is .eq)))) (of-lt lo<w) (of-eq (W-is .eq))
@@ -178,8 +199,10 @@ module _ (w : ℕ) (small : w ≤ 4096) where
       fine = inner .fine;
       near = λ c k.
           let g = G c (val lo) (natᶠ w) in
+          let range = G-range c (val lo) (natᶠ w) in
+          let cut = near-to (mul-cong (val a′) (G-cong c (refl≈ _) (W-is .eq))) (inner .near c k) in
           near-to (trans≈ (mul-assoc (val a) I g) (mul-cong (val a) (sym≈ (G-cut-right c w (val lo) (val hi) I k lo<w w<hi (part-is iN iD iN0 iD0 iND)))))
-          (near-weaken (near-trans (near-to (mul-cong (val a′) (G-cong c (refl≈ _) (W-is .eq))) (inner .near c k)) (by-part ((G-range c (val lo) (natᶠ w)) .0) ((G-range c (val lo) (natᶠ w)) .1) (lit tt) (a-ok .1))) (unfold _+ᶠ_ in lit tt));
+          (near-weaken (near-trans cut (by-part (range .0) (range .1) (lit tt) (a-ok .1))) (unfold _+ᶠ_ in lit tt));
       size =
           let B = absᶠ (val a) in
           over (total (spanE w (suc n) lo W a′) ∷ absᶠ (val a′) ∷ B ∷ B *ᶠ I ∷ insideExcess ∷ rightExcess ∷ cutError ∷ []) (λ N m X Y Z U d D e.
@@ -189,8 +212,8 @@ module _ (w : ℕ) (small : w ≤ 4096) where
             D .is,
             e .is,
             at-le N X (add-at N Y d) (inner .size),
-            at-le N Y (add-at N U e) (size-of (val a) I (part-lo iN iD iN0 iD0 iND) (a-ok .1)),
-            at-le N U Z (trans (mul-mono (abs-nonneg (val a)) (part-hi iN iD iN0 iD0 iND)) (of-eq (mul-one B))),
+            at-le N Y (add-at N U e) (size-of (val a) I I0 (a-ok .1)),
+            at-le N U Z (trans (mul-mono (abs-nonneg (val a)) I1) (of-eq (mul-one B))),
           )));
       few = inner .few;
       from = λ k p q. inner .from k p (trans p (trans (of-lt lo<w) (of-eq (sym≈ (W-is .eq)))));
@@ -201,7 +224,7 @@ module _ (w : ℕ) (small : w ≤ 4096) where
       → Adds w 1 (spanE w (suc (suc n)) xa xb a) (val xa) (val xb) (val a) rightError rightExcess
   level1 n xa xb a X Y A x0 y0 = sorted (suc n) 1 xa xb a rightError rightExcess (num-itself X) (num-itself Y) (clip xa xb X Y x0) (clip xb xa Y X y0)
     where
-      clip : (lo hi : Float) → Num lo (natᶠ 4097) → Num hi (natᶠ 4097) → natᶠ 0 ≤ᶠ val lo → val lo ≤ᶠ val hi → Adds w 1 (clipE W (spanE w (suc n)) lo hi a) (val lo) (val hi) (val a) rightError rightExcess
+      clip : (lo hi : Float) → Num lo (natᶠ 4097) → Num hi (natᶠ 4097) → natᶠ 0 ≤ᶠ val lo → val lo ≤ᶠ val hi → Clipped (suc n) 1 lo hi a rightError rightExcess
       clip lo hi L H z order = clip-cases (spanE w (suc n)) lo hi a (num-itself L) (num-itself H) (λ (l : List Entry). Adds w 1 l (val lo) (val hi) (val a) rightError rightExcess)
           (nothing-adds lo hi a 1 rightError rightExcess (lit tt) (lit tt) order)
           (all-adds lo hi a 1 cutOnce rightError rightExcess (le-refl 1) A (lit tt) (lit tt) order)
@@ -250,7 +273,8 @@ module _ (w : ℕ) (small : w ≤ 4096) where
     o′ = lo ⊘ (lo ⊖ hi)
 
     o-ok : Known binary32 o′ O (natᶠ 1) quotientError
-    o-ok = quotient lo (lo ⊖ hi) (val lo) (val lo -ᶠ val hi) O (approx-weaken (lit tt) (lit tt) (approx-exact (num-itself L))) (approx-rounds den⁻ (sub-fits binary32 lo hi)) below-zero turned (within-weaken (within-self O0) O1)
+    o-ok = quotient (approx-weaken (lit tt) (lit tt) (approx-exact (num-itself L)))
+        (approx-rounds den⁻ (sub-fits binary32 lo hi)) below-zero turned (within-weaken (within-self O0) O1)
 
     abbrev a0 : Float
     a0 = a ⊗ o′
@@ -262,19 +286,21 @@ module _ (w : ℕ) (small : w ≤ 4096) where
     A⁺ = num-weaken (lit tt) A
 
     a0-ok : T (finite a0) × Near (val a0) (val a *ᶠ O) cutError
-    a0-ok = cut-in a o′ O A⁺ o-ok O0 O1
+    a0-ok = cut-in A⁺ o-ok O0 O1
 
     a″-ok : T (finite a″) × Near (val a″) (val a *ᶠ (natᶠ 1 -ᶠ O)) cutError
-    a″-ok = cut-out a o′ O A⁺ o-ok O0 O1
+    a″-ok = cut-out A⁺ o-ok O0 O1
 
     R0 : natᶠ 0 ≤ᶠ natᶠ 1 -ᶠ O
-    R0 = over (natᶠ 0 ∷ natᶠ 1 ∷ O ∷ []) (λ N n Z I X. le-at N Z (sub-at N I X) n (omega (arith, Z .is, at-le N X I O1)))
+    R0 = rest-lo A⁺ o-ok O0 O1
 
     R1 : natᶠ 1 -ᶠ O ≤ᶠ natᶠ 1
-    R1 = over (natᶠ 0 ∷ natᶠ 1 ∷ O ∷ []) (λ N n Z I X. le-at N (sub-at N I X) I n (omega (arith, Z .is, at-le N Z X O0)))
+    R1 = rest-hi A⁺ o-ok O0 O1
 
     a″-num : Num a″ cutOnce
-    a″-num = record { fine = a″-ok .0; held = mul-fits binary32 a (f1 ⊖ o′); within = within-weaken (within-near (a″-ok .1) (within-mul (A .within) (within-weaken (within-self R0) R1))) (unfold _+ᶠ_ _*ᶠ_ in lit tt) }
+    a″-num =
+        let near = within-near (a″-ok .1) (within-mul (A .within) (within-weaken (within-self R0) R1)) in
+        record { fine = a″-ok .0; held = mul-fits binary32 a (f1 ⊖ o′); within = within-weaken near (unfold _+ᶠ_ _*ᶠ_ in lit tt) }
 
     zero-num : Num f0 (natᶠ 4097)
     zero-num = record { fine = zero-is .fine; held = zero-is .held; within = within-same (sym≈ (zero-is .eq)) (within-weaken (within-self (lit tt)) (lit tt)) }
@@ -290,11 +316,13 @@ module _ (w : ℕ) (small : w ≤ 4096) where
           let g = G c (natᶠ 0) (val hi) in
           let ρ = val a ∷ O ∷ g ∷ [] in
           let P = reps ρ in
+          let sum = ring ρ {x = val a *ᶠ O +ᶠ val a *ᶠ (natᶠ 1 -ᶠ O) *ᶠ g} {y = val a *ᶠ (O +ᶠ (natᶠ 1 -ᶠ O) *ᶠ g)} (search rep depth 9) (search rep depth 9) tt in
+          let exact = G-cut-left c (val lo) (val hi) O lo<0 0<hi (part-is oN oD oN0 oD0 oND) in
+          let range = G-range c (natᶠ 0) (val hi) in
+          let cut = near-to (mul-cong (val a″) (G-cong c (zero-is .eq) (refl≈ _))) (rest .near c k) in
+          let both = near-add (a0-ok .1) (near-trans cut (by-part (range .0) (range .1) (lit tt) (a″-ok .1))) in
           near-same (cong-add (sym≈ (pick-in 0 (suc c) (val a0) (omega arith))) (refl≈ _))
-          (near-to (trans≈ (ring ρ {x = val a *ᶠ O +ᶠ val a *ᶠ (natᶠ 1 -ᶠ O) *ᶠ g} {y = val a *ᶠ (O +ᶠ (natᶠ 1 -ᶠ O) *ᶠ g)} (search rep depth 9) (search rep depth 9) tt)
-          (mul-cong (val a) (sym≈ (G-cut-left c (val lo) (val hi) O lo<0 0<hi (part-is oN oD oN0 oD0 oND)))))
-          (near-weaken (near-add (a0-ok .1) (near-trans (near-to (mul-cong (val a″) (G-cong c (zero-is .eq) (refl≈ _))) (rest .near c k)) (by-part ((G-range c (natᶠ 0) (val hi)) .0) ((G-range c (natᶠ 0) (val hi)) .1) (lit tt) (a″-ok .1))))
-          (unfold _+ᶠ_ in lit tt)));
+          (near-to (trans≈ sum (mul-cong (val a) (sym≈ exact))) (near-weaken both (unfold _+ᶠ_ in lit tt)));
       size =
           let B = absᶠ (val a) in
           let ρ = B ∷ O ∷ [] in
@@ -329,7 +357,7 @@ module _ (w : ℕ) (small : w ≤ 4096) where
   pub span-adds : (n : ℕ) (xa xb a : Float) → Num xa (natᶠ 4097) → Num xb (natᶠ 4097) → Num a (natᶠ 1) → Adds w 2 (spanE w (suc (suc (suc n))) xa xb a) (val xa) (val xb) (val a) spanError spanExcess
   span-adds n xa xb a X Y A = sorted (suc (suc n)) 2 xa xb a spanError spanExcess (num-itself X) (num-itself Y) (clip xa xb X Y) (clip xb xa Y X)
     where
-      clip : (lo hi : Float) → Num lo (natᶠ 4097) → Num hi (natᶠ 4097) → val lo ≤ᶠ val hi → Adds w 2 (clipE W (spanE w (suc (suc n))) lo hi a) (val lo) (val hi) (val a) spanError spanExcess
+      clip : (lo hi : Float) → Num lo (natᶠ 4097) → Num hi (natᶠ 4097) → val lo ≤ᶠ val hi → Clipped (suc (suc n)) 2 lo hi a spanError spanExcess
       clip lo hi L H order = clip-cases (spanE w (suc (suc n))) lo hi a (num-itself L) (num-itself H) (λ (l : List Entry). Adds w 2 l (val lo) (val hi) (val a) spanError spanExcess)
           (nothing-adds lo hi a 2 spanError spanExcess (lit tt) (lit tt) order)
           (all-adds lo hi a 2 (natᶠ 1) spanError spanExcess (omega arith) A (lit tt) (lit tt) order)

@@ -1,14 +1,14 @@
--- The worked cell of docs/BOUND.md: one triangle on a mask 4 by 4. Its bytes, and of the cell in column 2 of row 2 the exact share and the allowed difference.
--- `proofs/Example.antt` has an element of `WorkedCell`, by computation.
+-- The worked cell of docs/BOUND.md: one triangle on a mask 4 by 4. Its bytes, and of the cell in column 2 of row 2 the
+-- exact share and the allowed difference. `proofs/Example.antt` has an element of `WorkedCell`, by computation.
 use mathlib.Core.Path.{_≡_}
 use mathlib.Core.List.{List, [], _∷_}
 use native.Mathlib.Nat.{zero-lt-suc}
 use lib.IntN.{ℤ, pos}
 use Rattle.fraction.specs.Whole.{natʷ}
 use Rattle.fraction.specs.Fraction.{_≈ᶠ_, _/2^_}
-use Rattle.words.specs.Words.{groupsOf}
+use Rattle.word_list.specs.Words.{groupsOf}
 use Rattle.winding.specs.Drawn.{drawnShare, allowedDifference}
-use Rattle.coverage.specs.declared.Size.{Size}
+use Rattle.cells.specs.declared.Size.{Size}
 use Rattle.coverage.specs.Drawing.{drawingOf}
 
 abbrev pub square : Size
@@ -23,4 +23,4 @@ pub record WorkedCell : Type 0 where
   -- 9/22
   pub share : drawnShare (groupsOf triangle) 2 2 ≈ᶠ record { num = natʷ 9; den = 22; pos = zero-lt-suc 21 }
   -- two edges and a group
-  pub allowed : allowedDifference (groupsOf triangle) 2 ≈ᶠ 5 /2^ 1
+  pub difference : allowedDifference (groupsOf triangle) 2 ≈ᶠ 5 /2^ 1

@@ -1,13 +1,12 @@
 // Reads a list of calls, one a line, and writes an answer a line: README.md, 'A list of calls'.
 mod input;
-mod masks;
 
+use buffers::MOST_BYTES;
 use fields::Field;
 use fields::MOST_LINE;
 use fields::Problem;
 use input::CHUNK;
 use input::Input;
-use masks::MOST_BYTES;
 
 // What is kept from line to line, beside the buffers' bytes.
 struct State {
@@ -29,12 +28,12 @@ fn on_buffer(
 ) -> State {
     let which = fields::next(line, name.end);
     if fields::is(line, which, b"run") {
-        let l = masks::answer(line, name, which.end, run, s.run);
+        let l = mask_calls::answer(line, name, which.end, run, s.run);
         let problem = l.problem;
         return kept(s, l.length, s.next, problem);
     }
     if fields::is(line, which, b"next") {
-        let l = masks::answer(line, name, which.end, next, s.next);
+        let l = mask_calls::answer(line, name, which.end, next, s.next);
         let problem = l.problem;
         return kept(s, s.run, l.length, problem);
     }
@@ -68,11 +67,11 @@ fn answer(
     if fields::byte_at(line, name.start) == b'#' {
         return s;
     }
-    if masks::has(line, name) {
+    if mask_calls::has(line, name) {
         return on_buffer(line, name, run, next, s);
     }
     if fields::is(line, name, b"lay") {
-        let problem = masks::lay(line, name.end, run, s.run, next, s.next);
+        let problem = mask_calls::lay(line, name.end, run, s.run, next, s.next);
         return kept(s, s.run, s.next, problem);
     }
     kept(s, s.run, s.next, box_calls::answer(line, name))

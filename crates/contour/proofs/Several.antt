@@ -1,20 +1,18 @@
 -- The contours of a group, one after another. Assumes nothing.
-use mathlib.Core.Path.{_≡_, refl, sym, ap, _∙_, subst}
+use mathlib.Core.Path.{_≡_, refl, sym, ap, _∙_}
 use mathlib.Core.List.{List, [], _∷_, _++_, append-assoc, append-nil}
 use Prim.Native.Nat.{ℕ, _+_, _-_, _*_, _≤_}
 use native.Mathlib.Omega.{arith}
 use lib.IntN.{ℤ}
 use lib.ListN.{length, drop}
 use lib.Ieee.{Float}
-use Rattle.words.specs.Words.{Point, readPoints, readContours, readOr, pointsOf}
-use Rattle.words.specs.Scan.{Fine, endOf}
-use Rattle.words.specs.declared.Counted.{Counted}
-use Rattle.words.specs.declared.Counted.the-variants as counted
-use Rattle.words.proofs.Places.{NextContour, no-contour}
+use Rattle.word_list.specs.Words.{Point, readContours, pointsOf}
+use Rattle.words.specs.Scan.{Fine, pointsFrom, contoursFrom, endOf}
+use Rattle.words.proofs.Places.{ContourThere, no-contour}
 use Rattle.edge.specs.declared.Edge.{Edge}
-use Rattle.edge.specs.Edges.{contourOf, edgesOf}
-use Rattle.edge.specs.Stored.{Pushed}
+use Rattle.edge.specs.Floats.{Pushed}
 use Rattle.edge.proofs.Pushing.{pushed-none, pushed-more}
+use Rattle.contour.specs.Contours.{contourOf, edgesOf}
 
 one-contour : (height : ℕ) (c : List Point) (cs : List (List Point)) → edgesOf height (c ∷ cs) ≡ contourOf height c ++ edgesOf height cs
 unfolding edgesOf
@@ -32,74 +30,71 @@ points-none : pointsOf [] ≡ 0
 unfolding pointsOf
 points-none = refl
 
--- a count word is one count
-pub same-count : (r : Counted) (m n : ℕ) → r ≡ counted.Count m → r ≡ counted.Count n → m ≡ n
-same-count r m n e f = cc
-
-pub not-refused : (r : Counted) (m : ℕ) {f : Rattle.fault.specs.declared.Fault.Fault} → r ≡ counted.Count m → r ≡ counted.Refused f → ⊥
-not-refused r m e f = let z : _≡_ {A = ℕ} 0 1 = cc in omega arith
-
 -- where the contours stand: the edges of some are stored, and the others are to come
-pub record Going (height : ℕ) (ws : List ℤ) (from n : ℕ) (fs : List Float) (edges : ℕ) (gs : List Float) (at count left : ℕ) : Type 0 where
+pub record Going (height : ℕ) (ws : List ℤ) (from n : ℕ) (fs : List Float) (edges : ℕ) (gs : List Float) (at count remaining : ℕ) : Type 0 where
   pub within : at ≤ length ws
   pub long : length gs ≡ length fs
-  pub fine : Fine (readContours left 0 (drop at ws))
+  pub fine : Fine (readContours remaining 0 (drop at ws))
   pub done : ℕ
   pub new : List Edge
   pub pushed : Pushed fs gs edges 0 count done new
-  pub few : pointsOf (readOr [] (readContours n 0 (drop from ws))) ≡ done + pointsOf (readOr [] (readContours left 0 (drop at ws)))
-  pub whole : edgesOf height (readOr [] (readContours n 0 (drop from ws))) ≡ new ++ edgesOf height (readOr [] (readContours left 0 (drop at ws)))
-  pub end : endOf (length ws) (readContours n 0 (drop from ws)) ≡ endOf (length ws) (readContours left 0 (drop at ws))
+  pub few : pointsOf (contoursFrom ws from n) ≡ done + pointsOf (contoursFrom ws at remaining)
+  pub whole : edgesOf height (contoursFrom ws from n) ≡ new ++ edgesOf height (contoursFrom ws at remaining)
+  pub end : endOf (length ws) (readContours n 0 (drop from ws)) ≡ endOf (length ws) (readContours remaining 0 (drop at ws))
 
-module _ (height : ℕ) (ws : List ℤ) (from n : ℕ) (fs : List Float) (edges : ℕ) where
-  abbrev G : List Float → ℕ → ℕ → ℕ → Type 0
-  G = Going height ws from n fs edges
+module _ {height : ℕ} {ws : List ℤ} {from n : ℕ} {fs : List Float} {edges : ℕ} where
+  pub going-start : Fine (readContours n 0 (drop from ws)) → from ≤ length ws → Going height ws from n fs edges fs from 0 n
+  going-start f l = record {
+    within = l;
+    long = refl;
+    fine = f;
+    done = 0;
+    new = [];
+    pushed = pushed-none;
+    few = omega arith;
+    whole = refl;
+    end = refl;
+  }
 
-  pub going-start : Fine (readContours n 0 (drop from ws)) → from ≤ length ws → G fs from 0 n
-  going-start f l = record { within = l; long = refl; fine = f; done = 0; new = []; pushed = pushed-none fs edges 0 0; few = omega arith; whole = refl; end = refl }
+  module _ {gs : List Float} {at count remaining : ℕ} (g : Going height ws from n fs edges gs at count remaining) where
+    -- the next contour, of m points
+    module _ {m : ℕ} (c : ContourThere remaining ws at m) where
+      abbrev points : List Point
+      points = pointsFrom ws (at + 1) m
 
-  -- the next contour, of m points by its count word
-  module _ (gs : List Float) (at count left : ℕ) (g : G gs at count left) (m : ℕ) (c : NextContour left ws at) (same : m ≡ c .count) where
-    pub next-fine : Fine (readPoints m (drop (at + 1) ws))
-    next-fine = rw same (c .points)
+      abbrev others : List (List Point)
+      others = contoursFrom ws (at + 1 + 2 * m) (remaining - 1)
 
-    pub next-within : at + 1 + 2 * m ≤ length ws
-    next-within = rw same (c .within)
+      few-more : pointsOf (contoursFrom ws from n) ≡ g .done + m + pointsOf others
+      few-more = let a = g .few in let b = ap pointsOf (c .whole) ∙ points-of points others in let s = c .size in omega arith
 
-    pub next-room : edges + 5 * pointsOf (readOr [] (readContours n 0 (drop from ws))) ≤ length fs → edges + 5 * (count + m) ≤ length gs
-    next-room l =
-        let a = g .few in
-        let b = ap pointsOf (c .whole) ∙ points-of (readOr [] (readPoints (c .count) (drop (at + 1) ws))) (readOr [] (readContours (left - 1) 0 (drop (at + 1 + 2 * c .count) ws))) in
-        let s = c .size in
-        let f = g .pushed .few in
-        let k = g .long in
-        omega arith
+      pub next-room : edges + 5 * pointsOf (contoursFrom ws from n) ≤ length fs → edges + 5 * (count + m) ≤ length gs
+      next-room l = let a = few-more in let f = g .pushed .few in let k = g .long in omega arith
 
-    pub going-more : (hs : List Float) (r : ℕ) → length hs ≡ length gs → Pushed gs hs edges count r m (contourOf height (readOr [] (readPoints m (drop (at + 1) ws))))
-        → G hs (at + 1 + 2 * m) r (left - 1)
-    going-more hs r k p = rw same (go (subst (λ (i : ℕ). Pushed gs hs edges count r i (contourOf height (readOr [] (readPoints i (drop (at + 1) ws))))) same p))
-      where
-        go : Pushed gs hs edges count r (c .count) (contourOf height (readOr [] (readPoints (c .count) (drop (at + 1) ws)))) → G hs (at + 1 + 2 * c .count) r (left - 1)
-        go p = record {
-          within = c .within;
-          long = k ∙ g .long;
-          fine = c .others;
-          done = g .done + c .count;
-          new = g .new ++ contourOf height (readOr [] (readPoints (c .count) (drop (at + 1) ws)));
-          pushed = pushed-more (g .pushed) p;
-          few = let a = g .few in let b = ap pointsOf (c .whole) ∙ points-of (readOr [] (readPoints (c .count) (drop (at + 1) ws))) (readOr [] (readContours (left - 1) 0 (drop (at + 1 + 2 * c .count) ws))) in let s = c .size in omega arith;
-          whole = g .whole ∙ ap (λ (cs : List (List Point)). g .new ++ edgesOf height cs) (c .whole)
-              ∙ ap (λ (es : List Edge). g .new ++ es) (one-contour height (readOr [] (readPoints (c .count) (drop (at + 1) ws))) (readOr [] (readContours (left - 1) 0 (drop (at + 1 + 2 * c .count) ws))))
-              ∙ sym (append-assoc (g .new) (contourOf height (readOr [] (readPoints (c .count) (drop (at + 1) ws)))) (edgesOf height (readOr [] (readContours (left - 1) 0 (drop (at + 1 + 2 * c .count) ws)))));
-          end = g .end ∙ c .end;
-        }
+      pub going-more : {hs : List Float} {r : ℕ} → length hs ≡ length gs → Pushed gs hs edges count r m (contourOf height points)
+          → Going height ws from n fs edges hs (at + 1 + 2 * m) r (remaining - 1)
+      going-more k p = record {
+        within = c .within;
+        long = k ∙ g .long;
+        fine = c .others;
+        done = g .done + m;
+        new = g .new ++ contourOf height points;
+        pushed = pushed-more (g .pushed) p;
+        few = few-more;
+        whole = g .whole ∙ ap (λ (cs : List (List Point)). g .new ++ edgesOf height cs) (c .whole)
+            ∙ ap (λ (es : List Edge). g .new ++ es) (one-contour height points others)
+            ∙ sym (append-assoc (g .new) (contourOf height points) (edgesOf height others));
+        end = g .end ∙ c .end;
+      }
 
-  pub going-end : (gs : List Float) (at count left : ℕ) → G gs at count left → left ≤ 0
-      → Pushed fs gs edges 0 count (pointsOf (readOr [] (readContours n 0 (drop from ws)))) (edgesOf height (readOr [] (readContours n 0 (drop from ws))))
-      × (at ≡ endOf (length ws) (readContours n 0 (drop from ws)))
-  going-end gs at count left g l =
-      let z = no-contour left ws at l (g .within) in
-      let a : pointsOf (readOr [] (readContours n 0 (drop from ws))) ≡ g .done = (let b = g .few in let p = ap pointsOf (z .0) ∙ points-none in omega arith) in
-      let e : edgesOf height (readOr [] (readContours n 0 (drop from ws))) ≡ g .new =
-      g .whole ∙ ap (λ (cs : List (List Point)). g .new ++ edgesOf height cs) (z .0) ∙ ap (λ (es : List Edge). g .new ++ es) (no-contours height) ∙ append-nil (g .new) in
-      (rw (a, e) (g .pushed), sym (g .end ∙ z .1))
+    pub going-end : remaining ≤ 0
+        → Pushed fs gs edges 0 count (pointsOf (contoursFrom ws from n)) (edgesOf height (contoursFrom ws from n))
+        × (at ≡ endOf (length ws) (readContours n 0 (drop from ws)))
+    going-end l =
+        let z = no-contour remaining ws at l (g .within) in
+        let p = ap pointsOf (z .0) ∙ points-none in
+        let a : pointsOf (contoursFrom ws from n) ≡ g .done = omega (arith, g .few) in
+        let e : edgesOf height (contoursFrom ws from n) ≡ g .new =
+        g .whole ∙ ap (λ (cs : List (List Point)). g .new ++ edgesOf height cs) (z .0)
+        ∙ ap (λ (es : List Edge). g .new ++ es) (no-contours height) ∙ append-nil (g .new) in
+        (rw (a, e) (g .pushed), sym (g .end ∙ z .1))

@@ -3,15 +3,14 @@ use words::Counted;
 use words::Word;
 ghost use mathlib.Core.Path.{_≡_};
 ghost use mathlib.Core.Bool.{false};
-ghost use mathlib.Core.List.{[]};
 ghost use Prim.Native.Nat.{_+_, _*_, _≤_, _<_};
 ghost use lib.IntN.{ℤ, pos};
 ghost use lib.ListN.{length, getD, drop};
-ghost use Rattle.words.specs.Words.{beyond, readPoints, readContours, readOr, pointsOf};
-ghost use Rattle.words.specs.Scan.{Fine, endOf};
+ghost use Rattle.word_list.specs.Words.{beyond, readPoints, readContours, pointsOf};
+ghost use Rattle.words.specs.Scan.{Fine, pointsFrom, contoursFrom, endOf};
 ghost use Rattle.words.specs.declared.Word.the-variants.{Value};
-ghost use Rattle.edge.specs.Edges.{coordinateOf, contourOf, edgesOf};
-ghost use Rattle.edge.specs.Stored.{Pushed};
+ghost use Rattle.edge.specs.Floats.{Pushed};
+ghost use Rattle.contour.specs.Contours.{coordinateOf, contourOf, edgesOf};
 
 // A point of a contour, in cells.
 struct Point {
@@ -63,7 +62,7 @@ fn contour(
 ) -> usize
     requires { ⌜ Fine (readPoints n (drop at (now words))) ⌝ }
     requires { ⌜ (edges + 5 * (stored + n) ≤ length (now floats)) × (height ≤ 4096) ⌝ }
-    ensures { λ r. ⌜ Pushed (now (floats .entry)) (now (floats .exit)) edges stored r n (contourOf height (readOr [] (readPoints n (drop at (now (words .entry)))))) ⌝ }
+    ensures { λ r. ⌜ Pushed (now (floats .entry)) (now (floats .exit)) edges stored r n (contourOf height (pointsFrom (now (words .entry)) at n)) ⌝ }
 {
     if n == 0 {
         return stored;
@@ -86,7 +85,7 @@ fn contour(
 }
 
 // Where reading goes on, and how many edges are stored.
-pub struct Stored {
+pub struct Progress {
     pub at: usize,
     pub count: usize,
 }
@@ -99,23 +98,24 @@ pub fn contours(
     floats: &mut [f32],
     edges: usize,
     height: usize,
-) -> Stored
+) -> Progress
     requires { ⌜ Fine (readContours n 0 (drop from (now words))) ⌝ }
     requires { ⌜ from ≤ length (now words) ⌝ }
-    requires { ⌜ (edges + 5 * pointsOf (readOr [] (readContours n 0 (drop from (now words)))) ≤ length (now floats)) × (height ≤ 4096) ⌝ }
-    ensures { λ r. ⌜ Pushed (now (floats .entry)) (now (floats .exit)) edges 0 (r .count) (pointsOf (readOr [] (readContours n 0 (drop from (now (words .entry)))))) (edgesOf height (readOr [] (readContours n 0 (drop from (now (words .entry)))))) ⌝ }
+    requires { ⌜ (edges + 5 * pointsOf (contoursFrom (now words) from n) ≤ length (now floats)) × (height ≤ 4096) ⌝ }
+    ensures { λ r. ⌜ Pushed (now (floats .entry)) (now (floats .exit)) edges 0 (r .count)
+        (pointsOf (contoursFrom (now (words .entry)) from n)) (edgesOf height (contoursFrom (now (words .entry)) from n)) ⌝ }
     ensures { λ r. ⌜ r .at ≡ endOf (length (now (words .entry))) (readContours n 0 (drop from (now (words .entry)))) ⌝ }
 {
     let mut at = from;
     let mut count = 0;
-    let mut left = n;
-    while 0 < left {
+    let mut remaining = n;
+    while 0 < remaining {
         let Counted::Count(points) = words::count_at(words, at) else {
-            return Stored { at, count };
+            return Progress { at, count };
         };
         count = contour(words, at + 1, points, floats, edges, count, height);
         at = at + 1 + 2 * points;
-        left -= 1;
+        remaining -= 1;
     }
-    Stored { at, count }
+    Progress { at, count }
 }

@@ -1,4 +1,5 @@
--- The active edges of a row are those that were kept and those that join, and never more than there are edges. Assumes nothing.
+-- The active edges of a row are those that were kept and those that join, and never more than there are edges. Assumes
+-- nothing.
 use mathlib.Core.Path.{_≡_, refl, ap}
 use mathlib.Core.Bool.{Bool, true, false, cond}
 use mathlib.Core.List.{List, [], _∷_, _++_}
@@ -77,7 +78,8 @@ active-le : (es : List Edge) (row : ℕ) → length (activeEdges es row) ≤ upt
 unfolding activeEdges
 active-le es zero = omega (arith, upto-first es)
 active-le es (suc row) =
-    omega (arith, active-le es row, upto-more row es, reaching-le (ofWhole (suc row)) (activeEdges es row), length-append (reachingBelow (ofWhole (suc row)) (activeEdges es row)) (startingIn (suc row) es))
+    let kept = reachingBelow (ofWhole (suc row)) (activeEdges es row) in
+    omega (arith, active-le es row, upto-more row es, reaching-le (ofWhole (suc row)) (activeEdges es row), length-append kept (startingIn (suc row) es))
 
 pub few : (es : List Edge) (row : ℕ) → length (keptOf es row) + length (startingIn row es) ≤ length es
 few es row = omega (arith, active-le es row, upto-le row es, length-append (keptOf es row) (startingIn row es), ap length (active-is es row))

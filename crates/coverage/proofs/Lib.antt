@@ -1,5 +1,6 @@
--- What the proofs of several functions cite. Groups: a drawing, group by group, for crate mask. Places: where a cell's byte stands.
-pub mod Rows
+-- What the proofs of several functions cite. Active: the edges active in a row. OneRow: a row drawn. AllRows: the rows
+-- of a group, one after another. Prepared: a group's edges put into the table. Groups: a drawing, group by group, for
+-- crate mask. Places: a drawing's length and bytes.
 pub mod Active
 pub mod OneRow
 pub mod AllRows

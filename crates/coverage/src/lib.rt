@@ -1,56 +1,32 @@
 // Groups of contours folded into coverage, row by row.
+use cells::Size;
 use edge::Layout;
 ghost use mathlib.Core.Path.{_≡_};
 ghost use Prim.Native.Nat.{_≤_};
-ghost use lib.ListN.{length, replicate};
-ghost use Rattle.float.specs.Ops.{f0};
-ghost use Rattle.words.specs.Words.{Group};
-ghost use Rattle.row.specs.Sweep.{addBytes};
+ghost use lib.ListN.{length};
+ghost use Rattle.word_list.specs.Words.{Group};
+ghost use Rattle.cells.specs.Cells.{SizeAllowed};
+ghost use Rattle.sweep.specs.Bytes.{addBytes};
 ghost use Rattle.edge.specs.Table.{edgesIn, activeIn};
-ghost use Rattle.coverage.specs.Drawing.{groupRow};
-ghost use Rattle.coverage.specs.Resolving.{Room, Clean, Holds, Stored, rowsAdded, edgesRow, edgesRows, Drawable, Drawn, Tabled};
+ghost use Rattle.coverage.specs.Drawing.{edgesRow, groupRow};
+ghost use Rattle.coverage.specs.Scratch.{floatsNeeded, countersNeeded, Room, Clean};
+ghost use Rattle.coverage.specs.Resolving.{GroupStored, SomeGroupStored, sizeOf, rowsAdded, edgesRows, Drawable, Drawn, RowsReady};
 
-// A mask's size in cells. Its bytes are lent beside it, one a cell, rows first.
-pub struct Size {
-    pub width: usize,
-    pub height: usize,
-}
+// ---- scratch
 
-impl Size {
-    // The most cells that a mask may have across or down.
-    pub const MOST_CELLS: usize = 4096;
-}
-
-// ---- lent buffers, cleared
-
-pub fn clear_bytes(bytes: &mut [u8])
-    ensures { λ _. ⌜ now (bytes .exit) ≡ replicate (length (now (bytes .entry))) 0 ⌝ }
+pub fn floats_needed(size: Size, points: usize) -> usize
+    requires { ⌜ SizeAllowed size × (points ≤ 2048) ⌝ }
+    ensures { λ r. ⌜ r ≡ floatsNeeded size points ⌝ }
 {
-    let mut i = 0;
-    while i < bytes.len() {
-        bytes[i] = 0;
-        i += 1;
-    }
+    size.width + 15 * points
 }
 
-pub fn clear_floats(floats: &mut [f32])
-    ensures { λ _. ⌜ now (floats .exit) ≡ replicate (length (now (floats .entry))) f0 ⌝ }
+// A row's words of marks, and a head for each row.
+pub fn counters_needed(size: Size) -> usize
+    requires { ⌜ SizeAllowed size ⌝ }
+    ensures { λ r. ⌜ r ≡ countersNeeded size ⌝ }
 {
-    let mut i = 0;
-    while i < floats.len() {
-        floats[i] = 0.0;
-        i += 1;
-    }
-}
-
-pub fn clear_counters(counters: &mut [u64])
-    ensures { λ _. ⌜ now (counters .exit) ≡ replicate (length (now (counters .entry))) 0 ⌝ }
-{
-    let mut i = 0;
-    while i < counters.len() {
-        counters[i] = 0;
-        i += 1;
-    }
+    row::mark_words(size.width) + size.height
 }
 
 // ---- a group
@@ -68,15 +44,15 @@ fn draw_row(
     even_odd: bool,
 ) -> usize
     requires { ⌜ Drawable (now floats) (now touched) l n ⌝ }
-    requires { ⌜ (length (now line) ≡ l .edges) × (row ≤ 4096) × (height ≤ 4096) ⌝ }
-    ensures { λ _. ⌜ now (line .exit) ≡ addBytes (now (line .entry)) (edgesRow «even_odd» (l .edges) height row (activeIn (now (floats .entry)) l n)) ⌝ }
+    requires { ⌜ (length (now line) ≡ l .width) × (row ≤ 4096) × (height ≤ 4096) ⌝ }
+    ensures { λ _. ⌜ now (line .exit) ≡ addBytes (now (line .entry)) (edgesRow «even_odd» (sizeOf l height) row (activeIn (now (floats .entry)) l n)) ⌝ }
     ensures { λ r. ⌜ Drawn (now (floats .entry)) (now (floats .exit)) l n row r ⌝ }
     ensures { λ r. ⌜ Drawable (now (floats .exit)) (now (touched .exit)) l r ⌝ }
 {
     if n == 0 {
         return 0;
     }
-    let width = l.edges;
+    let width = l.width;
     let top = float::from_whole(row);
     let bottom = float::from_whole(row + 1);
     let below = edge::pieces(
@@ -101,12 +77,12 @@ fn draw_rows(
     height: usize,
     even_odd: bool,
 )
-    requires { ⌜ Tabled (now mask) (now floats) (now counters) l height ⌝ }
-    ensures { λ _. ⌜ now (mask .exit) ≡ edgesRows «even_odd» (l .edges) height (edgesIn (now (floats .entry)) l) (now (mask .entry)) ⌝ }
-    ensures { λ _. ⌜ Clean (now (floats .exit)) (now (counters .exit)) (l .edges) height ⌝ }
+    requires { ⌜ RowsReady (now mask) (now floats) (now counters) l height ⌝ }
+    ensures { λ _. ⌜ now (mask .exit) ≡ edgesRows «even_odd» (sizeOf l height) (edgesIn (now (floats .entry)) l) (now (mask .entry)) ⌝ }
+    ensures { λ _. ⌜ Clean (now (floats .exit)) (now (counters .exit)) (sizeOf l height) ⌝ }
 {
-    let width = l.edges;
-    let words = (width + 63) / 64 + 1;
+    let width = l.width;
+    let words = row::mark_words(width);
     let end = words + height;
     let mut from = 0;
     let mut kept = 0;
@@ -141,10 +117,10 @@ pub fn resolve(
     even_odd: bool,
 )
     requires { ⌜ Room (now mask) (now floats) (now counters) size points ⌝ }
-    requires { ⌜ Clean (now floats) (now counters) (size .width) (size .height) ⌝ }
-    requires { ⌜ (count ≤ points) × Stored (now floats) size count «even_odd» ⌝ }
-    ensures { λ _. ⌜ ((g : Group) → Holds (now (floats .entry)) size count «even_odd» g → now (mask .exit) ≡ rowsAdded (groupRow size g) (size .width) (size .height) 0 (now (mask .entry))) ⌝ }
-    ensures { λ _. ⌜ Clean (now (floats .exit)) (now (counters .exit)) (size .width) (size .height) ⌝ }
+    requires { ⌜ Clean (now floats) (now counters) size ⌝ }
+    requires { ⌜ (count ≤ points) × SomeGroupStored (now floats) size count «even_odd» ⌝ }
+    ensures { λ _. ⌜ ((g : Group) → GroupStored (now (floats .entry)) size count «even_odd» g → now (mask .exit) ≡ rowsAdded (groupRow size g) size (now (mask .entry))) ⌝ }
+    ensures { λ _. ⌜ Clean (now (floats .exit)) (now (counters .exit)) size ⌝ }
 {
     let width = size.width;
     let height = size.height;
@@ -153,12 +129,12 @@ pub fn resolve(
     }
     let nexts = width + 5 * points;
     let l = Layout {
-        edges: width,
+        width,
         nexts,
         active: nexts + points,
         count,
     };
-    let words = (width + 63) / 64 + 1;
+    let words = row::mark_words(width);
     let end = words + height;
     edge::table(floats, &mut counters[words..end], l);
     draw_rows(mask, floats, counters, l, height, even_odd);

@@ -11,10 +11,10 @@ use Rattle.row.proofs.Floor.{column-back}
 use Rattle.edge.specs.declared.Edge.{Edge}
 use Rattle.edge.specs.declared.Layout.{Layout}
 use Rattle.edge.specs.Edges.{startRow, startingIn}
-use Rattle.edge.specs.Stored.{edgeAt, edgesAt, putEdge}
-use Rattle.edge.specs.Table.{nth, edgesIn, activeIn, firstIn, listFrom, Joining, Joined}
-use Rattle.edge.proofs.Stored.{same-edge, same-edges, length-put, put-other, put-own, edges-snoc}
-use Rattle.edge.proofs.Linking.{first-le, gathered, leads, list-open}
+use Rattle.edge.specs.Floats.{edgeAt, edgesAt, putEdge}
+use Rattle.edge.specs.Table.{nth, edgesIn, activeIn, Placed, firstIn, listFrom, Joining, Joined}
+use Rattle.edge.proofs.Floats.{same-edge, same-edges, length-put, put-other, put-own, edges-snoc}
+use Rattle.edge.proofs.Linking.{placed-long, first-le, gathered, leads, list-open}
 
 -- n edges are active, and the row's list goes on at `at`
 pub record JoinAt (fs : List Float) (l : Layout) (kept row : ℕ) (gs : List Float) (n at : ℕ) : Type 0 where
@@ -24,10 +24,17 @@ pub record JoinAt (fs : List Float) (l : Layout) (kept row : ℕ) (gs : List Flo
   pub all : activeIn gs l n ++ listFrom fs l row at ≡ activeIn fs l kept ++ startingIn row (edgesIn fs l)
   pub size : n + length (listFrom fs l row at) ≡ kept + length (startingIn row (edgesIn fs l))
 
-module _ (fs : List Float) (heads : List ℕ) (l : Layout) (kept row : ℕ) (j : Joining fs heads l kept row) where
+-- what a turn has room for: the next edge of the list is at its place, and one more may stand behind the active ones
+pub record JoinRoom (gs : List Float) (l : Layout) (n at : ℕ) : Type 0 where
+  pub placed : Placed gs l
+  pub some : 0 < at
+  pub here : at - 1 < l .count
+  pub more : n < l .count
+
+module _ {fs : List Float} {heads : List ℕ} {l : Layout} {kept row : ℕ} (j : Joining fs heads l kept row) where
   pub join-start : JoinAt fs l kept row fs kept (getD heads row 0)
   join-start =
-      let e : l .edges + 5 * 0 ≡ l .edges = omega arith in
+      let e : l .width + 5 * 0 ≡ l .width = omega arith in
       let g : startingIn row (edgesIn fs l) ≡ listFrom fs l row (getD heads row 0) =
       ap (λ (k : ℕ). startingIn row (edgesAt fs k (l .count))) (sym e) ∙ gathered fs l row (l .count) 0 (omega arith) ∙ ap (listFrom fs l row) (sym (j .first)) in
       record {
@@ -38,7 +45,7 @@ module _ (fs : List Float) (heads : List ℕ) (l : Layout) (kept row : ℕ) (j :
         size = ap (λ (r : List Edge). kept + length r) (sym g);
       }
 
-  module _ (gs : List Float) (n at : ℕ) (s : JoinAt fs l kept row gs n at) where
+  module _ {gs : List Float} {n at : ℕ} (s : JoinAt fs l kept row gs n at) where
     pub join-done : at ≡ 0 → Joined fs gs l kept row n
     unfolding listFrom
     join-done z =
@@ -57,27 +64,22 @@ module _ (fs : List Float) (heads : List ℕ) (l : Layout) (kept row : ℕ) (j :
       in-list : listFrom fs l row at ≡ nth fs l place ∷ listFrom fs l row (firstIn fs l row at (l .count - at))
       in-list = let h = here .0 in list-open fs l row at more (omega arith)
 
-      -- there is an edge at its place, and room for it behind the active ones
-      pub join-room : (place < l .count) × (n < l .count)
+      pub join-room : JoinRoom gs l n at
       join-room =
-          let k = s .size in
           let m = ap length in-list in
-          let r = j .room in
-          (here .0, omega arith)
+          record { placed = placed-long (s .long) (j .fits); some = more; here = here .0; more = omega arith }
 
-      pub join-edge : edgeAt gs (l .edges + 5 * place) ≡ nth fs l place
-      join-edge =
+      same : edgeAt gs (l .width + 5 * place) ≡ nth fs l place
+      same =
           let h = here .0 in
           let a = j .fits .edges in
           let b = j .fits .nexts in
-          same-edge gs fs (l .edges + 5 * place) (λ i p q. s .low i (omega arith))
+          same-edge gs fs (l .width + 5 * place) (λ i p q. s .low i (omega arith))
 
-      module _ (hs : List Float) (e : Edge) (is : e ≡ nth fs l place) (put : hs ≡ putEdge gs (l .active + 5 * n) e) where
+      -- the edge is copied behind the active ones
+      module _ {hs : List Float} {e : Edge} (got : e ≡ edgeAt gs (l .width + 5 * place)) (put : hs ≡ putEdge gs (l .active + 5 * n) e) where
         low : (i : ℕ) → i < l .active → getD hs i nan ≡ getD fs i nan
         low i h = ap (λ (x : List Float). getD x i nan) put ∙ put-other gs (l .active + 5 * n) e i (inl (omega arith)) ∙ s .low i h
-
-        pub join-long : length hs ≡ length gs
-        join-long = ap length put ∙ length-put gs (l .active + 5 * n) e
 
         -- the next of the list
         pub join-next : columnOf (getD hs (l .nexts + place) nan) ≡ firstIn fs l row at (l .count - at)
@@ -91,7 +93,7 @@ module _ (fs : List Float) (heads : List ℕ) (l : Layout) (kept row : ℕ) (j :
             ∙ ap (λ (r : ℕ). ofWhole (firstIn fs l r (place + 1) (l .count - (place + 1)))) (here .1) ∙ ap (λ (k : ℕ). ofWhole (firstIn fs l row k (l .count - k))) one)
             ∙ column-back (firstIn fs l row at (l .count - at)) (omega arith)
 
-        module _ (next : ℕ) (at-next : next ≡ columnOf (getD hs (l .nexts + place) nan)) where
+        module _ {next : ℕ} (at-next : next ≡ columnOf (getD hs (l .nexts + place) nan)) where
           is-next : next ≡ firstIn fs l row at (l .count - at)
           is-next = at-next ∙ join-next
 
@@ -104,20 +106,18 @@ module _ (fs : List Float) (heads : List ℕ) (l : Layout) (kept row : ℕ) (j :
           pub join-turn : JoinAt fs l kept row hs (n + 1) next
           join-turn =
               let r = join-room in
-              let r1 = r .1 in
-              let h = here .0 in
-              let c = j .fits .active in
-              let k = s .size in
               let m = ap length step in
-              let sl = s .long in
-              let own : edgeAt hs (l .active + 5 * n) ≡ nth fs l place = ap (λ (x : List Float). edgeAt x (l .active + 5 * n)) put ∙ put-own gs (l .active + 5 * n) e (omega arith) ∙ is in
-              let old : activeIn hs l n ≡ activeIn gs l n = same-edges n hs gs (l .active) (λ i p q. ap (λ (x : List Float). getD x i nan) put ∙ put-other gs (l .active + 5 * n) e i (inl q)) in
+              let own : edgeAt hs (l .active + 5 * n) ≡ nth fs l place =
+              ap (λ (x : List Float). edgeAt x (l .active + 5 * n)) put ∙ put-own gs (l .active + 5 * n) e (omega arith) ∙ got ∙ same in
+              let old : activeIn hs l n ≡ activeIn gs l n =
+              same-edges n hs gs (l .active) (λ i p q. ap (λ (x : List Float). getD x i nan) put ∙ put-other gs (l .active + 5 * n) e i (inl q)) in
               let one-more : activeIn hs l (n + 1) ≡ activeIn gs l n ++ (nth fs l place ∷ []) = edges-snoc n hs (l .active) ∙ rw (old, own) refl in
               record {
-                long = join-long ∙ s .long;
+                long = ap length put ∙ simp length-put (s .long);
                 low = low;
                 in-row = λ k z. leads fs l row (l .count - at) at (omega arith) k (sym is-next ∙ z);
                 all = ap (λ (x : List Edge). x ++ listFrom fs l row next) one-more
-                    ∙ append-assoc (activeIn gs l n) (nth fs l place ∷ []) (listFrom fs l row next) ∙ ap (λ (x : List Edge). activeIn gs l n ++ x) (sym step) ∙ s .all;
+                    ∙ append-assoc (activeIn gs l n) (nth fs l place ∷ []) (listFrom fs l row next)
+                    ∙ ap (λ (x : List Edge). activeIn gs l n ++ x) (sym step) ∙ s .all;
                 size = omega arith;
               }

@@ -1,4 +1,5 @@
--- The active edges of a row, one more at a time: its piece into the cells, and the edge kept where it reaches below. Assumes nothing.
+-- The active edges of a row, one more at a time: its piece into the cells, and the edge kept where it reaches below.
+-- Assumes nothing.
 use mathlib.Core.Path.{_≡_, refl, sym, ap, ap₂, _∙_, subst}
 use mathlib.Core.Logic.{_⊎_, inl, inr}
 use mathlib.Core.Bool.{Bool, true, false, cond}
@@ -15,15 +16,16 @@ use Rattle.row.specs.Marks.{Ready}
 use Rattle.edge.specs.declared.Edge.{Edge}
 use Rattle.edge.specs.declared.Layout.{Layout}
 use Rattle.edge.specs.Edges.{atOf, pieceOf, piecesOf, reachingBelow}
-use Rattle.edge.specs.Stored.{edgeAt, edgesAt, putEdge}
-use Rattle.edge.specs.Table.{activeIn, Kept, Row, Pieces}
-use Rattle.edge.proofs.Stored.{same-edges, length-put, put-other, put-own, take-put, edges-snoc, front-other}
+use Rattle.edge.specs.Floats.{edgeAt, edgesAt, putEdge}
+use Rattle.edge.specs.Table.{activeIn, Kept, ActiveRow, Pieces}
+use Rattle.edge.proofs.Floats.{same-edges, length-put, put-other, put-own, take-put, edges-snoc, front-other}
 
 -- what `piece` adds
-pub piece-is : (height top bottom : Float) (cells after : Cells) (e : Edge) (y low next xa xb : Float) → y ≡ maxOf (e .y) top → low ≡ minOf bottom (e .bottom) → next ≡ minOf low height → xa ≡ atOf e y → xb ≡ atOf e next
+pub piece-is : (height top bottom : Float) (cells : Cells) (e : Edge) {after : Cells} {y low next xa xb : Float}
+    → y ≡ maxOf (e .y) top → low ≡ minOf bottom (e .bottom) → next ≡ minOf low height → xa ≡ atOf e y → xb ≡ atOf e next
     → after ≡ spanOf cells xa xb ((next ⊖ y) ⊗ e .down) → after ≡ pieceOf height top bottom cells e
 unfolding pieceOf
-piece-is height top bottom cells after e y low next xa xb ey el en ea eb h =
+piece-is height top bottom cells e {y = y} {next = next} ey el en ea eb h =
     h ∙ ap₂ (λ (u v : Float). spanOf cells u v ((next ⊖ y) ⊗ e .down)) ea eb
     ∙ ap₂ (λ (u v : Float). spanOf cells (atOf e u) (atOf e v) ((v ⊖ u) ⊗ e .down)) ey (en ∙ ap (λ (u : Float). minOf u height) el)
 
@@ -32,33 +34,45 @@ abbrev from : List Float → Layout → ℕ → ℕ → List Edge
 from fs l n i = edgesAt fs (l .active + 5 * i) (n - i)
 
 -- i edges are done, and of those `kept` reach below
-pub record At (fs : List Float) (words : List ℕ) (l : Layout) (n : ℕ) (height top bottom : Float) (gs : List Float) (touched : List ℕ) (kept i : ℕ) : Type 0 where
+pub record PiecesAt (fs : List Float) (words : List ℕ) (l : Layout) (n : ℕ) (height top bottom : Float)
+    (gs : List Float) (touched : List ℕ) (kept i : ℕ) : Type 0 where
   pub done : i ≤ n
   pub few : kept ≤ i
   pub long : length gs ≡ length fs
   pub touched-long : length touched ≡ length words
-  pub ready : Ready (take (l .edges) gs) touched
-  pub cells : piecesOf height top bottom (take (l .edges) fs) (activeIn fs l n) ≡ piecesOf height top bottom (take (l .edges) gs) (from gs l n i)
+  pub ready : Ready (take (l .width) gs) touched
+  pub cells : piecesOf height top bottom (take (l .width) fs) (activeIn fs l n)
+      ≡ piecesOf height top bottom (take (l .width) gs) (from gs l n i)
   pub reach : reachingBelow bottom (activeIn fs l n) ≡ activeIn gs l kept ++ reachingBelow bottom (from gs l n i)
-  pub between : (k : ℕ) → l .edges ≤ k → k < l .active → getD gs k nan ≡ getD fs k nan
+  pub between : (k : ℕ) → l .width ≤ k → k < l .active → getD gs k nan ≡ getD fs k nan
 
-module _ (fs₀ : List Float) (words : List ℕ) (l : Layout) (n : ℕ) (height top bottom : Float) (r₀ : Row fs₀ words l n) where
-  pub row-start : At fs₀ words l n height top bottom fs₀ words 0 0
+-- what a turn has room for: the i-th active edge
+pub record PiecesRoom (fs : List Float) (l : Layout) (i : ℕ) : Type 0 where
+  pub apart : l .width ≤ l .active
+  pub room : l .active + 5 * i + 5 ≤ length fs
+
+module _ {fs₀ : List Float} {words : List ℕ} {l : Layout} {n : ℕ} (r₀ : ActiveRow fs₀ words l n) {height top bottom : Float} where
+  pub row-start : PiecesAt fs₀ words l n height top bottom fs₀ words 0 0
   unfolding edgesAt
   row-start =
       let e : l .active + 5 * 0 ≡ l .active = omega arith in
       let m : n - 0 ≡ n = omega arith in
-      record { done = omega arith; few = omega arith; long = refl; touched-long = refl; ready = r₀ .ready; cells = rw (e, m) refl; reach = rw (e, m) refl; between = λ k p q. refl }
+      record {
+        done = omega arith;
+        few = omega arith;
+        long = refl;
+        touched-long = refl;
+        ready = r₀ .ready;
+        cells = rw (e, m) refl;
+        reach = rw (e, m) refl;
+        between = λ k p q. refl;
+      }
 
-  module _ (fs : List Float) (touched : List ℕ) (kept i : ℕ) (s : At fs₀ words l n height top bottom fs touched kept i) where
-    pub row-done : n ≤ i → Pieces fs₀ l n height top bottom fs kept × Row fs touched l kept
+  module _ {fs : List Float} {touched : List ℕ} {kept i : ℕ} (s : PiecesAt fs₀ words l n height top bottom fs touched kept i) where
+    pub row-done : n ≤ i → Pieces fs₀ l n height top bottom fs kept × ActiveRow fs touched l kept
     unfolding edgesAt piecesOf reachingBelow
     row-done h =
-        let e : n - i ≡ 0 = omega arith in
-        let f = s .few in
-        let g = s .done in
-        let k = s .long in
-        let a = r₀ .room in (
+        let e : n - i ≡ 0 = omega arith in (
           record {
             cells = sym (s .cells ∙ rw e refl);
             kept = sym (s .reach ∙ rw e (append-nil (activeIn fs l kept)));
@@ -72,32 +86,38 @@ module _ (fs₀ : List Float) (words : List ℕ) (l : Layout) (n : ℕ) (height 
       abbrev edge : Edge
       edge = edgeAt fs (l .active + 5 * i)
 
-      width : length (take (l .edges) fs) ≡ l .edges
-      width = let a = r₀ .apart in let b = r₀ .room in let c = s .long in length-take-le (l .edges) fs (omega arith)
+      pub row-room : PiecesRoom fs l i
+      row-room = record { apart = r₀ .apart; room = omega arith }
 
-      pub row-room : l .active + 5 * i + 5 ≤ length fs
-      row-room = let b = r₀ .room in let c = s .long in omega arith
+      width : length (take (l .width) fs) ≡ l .width
+      width = let r = row-room in length-take-le (l .width) fs (omega arith)
 
-      pub row-mid : (ys : List Float) → length ys ≡ length (take (l .edges) fs) → length (ys ++ drop (l .edges) fs) ≡ length fs
-      row-mid ys long = length-front fs ys (l .edges) long
-
-      module _ (ys gs : List Float) (marks : List ℕ) (r : ℕ) (long : length ys ≡ length (take (l .edges) fs)) (marks-long : length marks ≡ length touched)
-          (cut : ys ≡ pieceOf height top bottom (take (l .edges) fs) edge) (ready : Ready ys marks) (k : Kept (ys ++ drop (l .edges) fs) l kept edge bottom gs r) where
+      -- the edge's piece is added to the cells, which are `ys` then, and the edge is kept or not
+      module _ {ys gs : List Float} {marks : List ℕ} {r : ℕ} {e : Edge} (got : e ≡ edge)
+          (long : length ys ≡ length (take (l .width) fs)) (marks-long : length marks ≡ length touched)
+          (added : ys ≡ pieceOf height top bottom (take (l .width) fs) e) (ready : Ready ys marks)
+          (keeps : Kept (ys ++ drop (l .width) fs) l kept e bottom gs r) where
         abbrev mid : List Float
-        mid = ys ++ drop (l .edges) fs
+        mid = ys ++ drop (l .width) fs
 
-        wide : length ys ≡ l .edges
+        cut : ys ≡ pieceOf height top bottom (take (l .width) fs) edge
+        cut = added ∙ ap (pieceOf height top bottom (take (l .width) fs)) got
+
+        k : Kept mid l kept edge bottom gs r
+        k = subst (λ (x : Edge). Kept mid l kept x bottom gs r) got keeps
+
+        wide : length ys ≡ l .width
         wide = long ∙ width
 
         mid-long : length mid ≡ length fs
-        mid-long = row-mid ys long
+        mid-long = length-front fs ys (l .width) long
 
-        apart : l .edges ≤ l .active
+        apart : l .width ≤ l .active
         apart = r₀ .apart
 
         -- what stands past the kept edges is as it was
-        outside : (j : ℕ) → l .edges ≤ j → (j < l .active + 5 * kept) ⊎ (l .active + 5 * i + 5 ≤ j) → getD gs j nan ≡ getD fs j nan
-        outside j h o = ap (λ (x : List Float). getD x j nan) (k .floats) ∙ go (lt bottom (edge .bottom)) ∙ front-other ys fs (l .edges) j wide h
+        outside : (j : ℕ) → l .width ≤ j → (j < l .active + 5 * kept) ⊎ (l .active + 5 * i + 5 ≤ j) → getD gs j nan ≡ getD fs j nan
+        outside j h o = ap (λ (x : List Float). getD x j nan) (k .floats) ∙ go (lt bottom (edge .bottom)) ∙ front-other ys fs (l .width) j wide h
           where
             away : (j < l .active + 5 * kept) ⊎ (l .active + 5 * i + 5 ≤ j) → (j < l .active + 5 * kept) ⊎ (l .active + 5 * kept + 5 ≤ j)
             away (inl p) = inl p
@@ -108,7 +128,9 @@ module _ (fs₀ : List Float) (words : List ℕ) (l : Layout) (n : ℕ) (height 
             go false = refl
 
         rest : from gs l n (i + 1) ≡ from fs l n (i + 1)
-        rest = let a = apart in same-edges (n - (i + 1)) gs fs (l .active + 5 * (i + 1)) (λ j p q. outside j (omega arith) (inr (omega arith)))
+        rest =
+            let a = apart in
+            same-edges (n - (i + 1)) gs fs (l .active + 5 * (i + 1)) (λ j p q. outside j (omega arith) (inr (omega arith)))
 
         split : from fs l n i ≡ edge ∷ from fs l n (i + 1)
         unfolding edgesAt
@@ -117,17 +139,19 @@ module _ (fs₀ : List Float) (words : List ℕ) (l : Layout) (n : ℕ) (height 
             let b : l .active + 5 * i + 5 ≡ l .active + 5 * (i + 1) = omega arith in
             rw (a, b) refl
 
-        front : take (l .edges) gs ≡ ys
-        front = ap (take (l .edges)) (k .floats) ∙ go (lt bottom (edge .bottom))
+        front : take (l .width) gs ≡ ys
+        front = ap (take (l .width)) (k .floats) ∙ go (lt bottom (edge .bottom))
           where
-            go : (b : Bool) → take (l .edges) (cond b (putEdge mid (l .active + 5 * kept) edge) mid) ≡ ys
-            go true = let a = apart in take-put mid (l .active + 5 * kept) edge (l .edges) (omega arith) ∙ take-at ys (drop (l .edges) fs) (l .edges) wide
-            go false = take-at ys (drop (l .edges) fs) (l .edges) wide
+            go : (b : Bool) → take (l .width) (cond b (putEdge mid (l .active + 5 * kept) edge) mid) ≡ ys
+            go true =
+                let a = apart in
+                take-put mid (l .active + 5 * kept) edge (l .width) (omega arith) ∙ take-at ys (drop (l .width) fs) (l .width) wide
+            go false = take-at ys (drop (l .width) fs) (l .width) wide
 
-        cells-turn : piecesOf height top bottom (take (l .edges) fs) (from fs l n i) ≡ piecesOf height top bottom (take (l .edges) gs) (from gs l n (i + 1))
+        cells-turn : piecesOf height top bottom (take (l .width) fs) (from fs l n i) ≡ piecesOf height top bottom (take (l .width) gs) (from gs l n (i + 1))
         unfolding piecesOf
         cells-turn =
-            ap (piecesOf height top bottom (take (l .edges) fs)) (split ∙ ap (λ (x : List Edge). edge ∷ x) (sym rest))
+            ap (piecesOf height top bottom (take (l .width) fs)) (split ∙ ap (λ (x : List Edge). edge ∷ x) (sym rest))
             ∙ ap (λ (x : List Float). piecesOf height top bottom x (from gs l n (i + 1))) (sym (front ∙ cut))
 
         kept-turn : activeIn fs l kept ++ reachingBelow bottom (from fs l n i) ≡ activeIn gs l r ++ reachingBelow bottom (from gs l n (i + 1))
@@ -143,8 +167,10 @@ module _ (fs₀ : List Float) (words : List ℕ) (l : Layout) (n : ℕ) (height 
                 let ml = mid-long in
                 let a = row-room in
                 let fw = s .few in
-                let own : edgeAt gs (l .active + 5 * kept) ≡ edge = ap (λ (x : List Float). edgeAt x (l .active + 5 * kept)) f ∙ put-own mid (l .active + 5 * kept) edge (omega arith) in
-                rw (split, rest, c, t, edges-snoc kept gs (l .active), old, own) (sym (append-assoc (activeIn fs l kept) (edge ∷ []) (reachingBelow bottom (from fs l n (i + 1)))))
+                let own : edgeAt gs (l .active + 5 * kept) ≡ edge =
+                ap (λ (x : List Float). edgeAt x (l .active + 5 * kept)) f ∙ put-own mid (l .active + 5 * kept) edge (omega arith) in
+                rw (split, rest, c, t, edges-snoc kept gs (l .active), old, own)
+                (sym (append-assoc (activeIn fs l kept) (edge ∷ []) (reachingBelow bottom (from fs l n (i + 1)))))
             go false t f c = rw (split, rest, c, t, old) refl
 
         few-turn : r ≤ i + 1
@@ -161,7 +187,7 @@ module _ (fs₀ : List Float) (words : List ℕ) (l : Layout) (n : ℕ) (height 
             go true = length-put mid (l .active + 5 * kept) edge
             go false = refl
 
-        pub row-turn : At fs₀ words l n height top bottom gs marks r (i + 1)
+        pub row-turn : PiecesAt fs₀ words l n height top bottom gs marks r (i + 1)
         row-turn =
             record {
               done = omega arith;

@@ -1,4 +1,5 @@
--- Every edge of a group starts in a row of the mask: one that the Rust's test `ya >= height` lets pass joins in a row below the height. Assumes nothing.
+-- An edge starts in a row of the mask: one that the Rust's test `ya >= height` lets pass joins in a row below the
+-- height. Assumes nothing.
 use mathlib.Core.Path.{_≡_, refl, sym, ap, _∙_, subst}
 use mathlib.Core.Bool.{Bool, true, false, cond, _||_, _&&_, true≢false}
 use mathlib.Core.List.{List, [], _∷_, _++_}
@@ -13,14 +14,12 @@ use lib.Ieee.Exact.{HasValue}
 use lib.Ieee.Back.{round-whole}
 use lib.Ieee.Fits.{down-pos}
 use borrow.Author.Tests.{lt-ltb, le-ltb, le-leb, lt-leb, leb-false, eq-eqb, ne-eqb}
-use Rattle.float.specs.Ops.{f0, f1, f-1}
+use Rattle.float.specs.Ops.{_⊖_, _⊘_, f0, f1, f-1}
 use Rattle.float.specs.Simple.{maxOf}
 use Rattle.float.specs.Whole.{columnOf, ofWhole}
-use Rattle.words.specs.Words.{Point}
 use Rattle.edge.specs.declared.Edge.{Edge}
-use Rattle.edge.specs.Edges.{coordinateOf, slopedOf, edgeOf, walkOf, lastOf, contourOf, edgesOf, startRow}
-use Rattle.edge.specs.Stored.{edgeAt, edgesAt}
-use Rattle.edge.proofs.Pushing.{edgeDown}
+use Rattle.edge.specs.Edges.{slopedOf, edgeBetween, startRow}
+use Rattle.edge.specs.Floats.{edgeAt, edgesAt}
 
 -- an f32 of a whole number has that value
 whole-value : (h : ℕ) → h ≤ 4096 → HasValue (ofWhole h) false h 1
@@ -107,13 +106,13 @@ same-test height y some few = go (ofWhole height) (whole-value height few)
     go (fin false a b) v = at-height height some few a b (v .1) y
     go (fin true a b) v = absurd (true≢false (v .0))
 
--- ---- the edges of a group
+-- ---- edges
 
-abbrev Below : ℕ → List Edge → Type 0
+abbrev pub Below : ℕ → List Edge → Type 0
 Below height [] = Unit
 Below height (e ∷ es) = (startRow e < height) × Below height es
 
-both : (height : ℕ) (a b : List Edge) → Below height a → Below height b → Below height (a ++ b)
+pub both : (height : ℕ) (a b : List Edge) → Below height a → Below height b → Below height (a ++ b)
 both height [] b p q = q
 both height (e ∷ a) b p q = (p .0, both height a b (p .1) q)
 
@@ -122,42 +121,26 @@ module _ (height : ℕ) (some : 0 < height) (few : height ≤ 4096) where
   unfolding slopedOf
   sloped-starts xa ya xb yb down = go (le yb f0) (le (ofWhole height) ya) refl
     where
-      go : (p q : Bool) → le (ofWhole height) ya ≡ q → Below height (cond (p || q) [] (edgeDown height xa ya xb yb down ∷ []))
+      edge : Edge
+      edge = record { x = xa; y = ya; bottom = yb; slope = (xb ⊖ xa) ⊘ (yb ⊖ ya); down = down }
+
+      go : (p q : Bool) → le (ofWhole height) ya ≡ q → Below height (cond (p || q) [] (edge ∷ []))
       go true q e = tt
       go false true e = tt
       go false false e = (leb-false height (columnOf (maxOf ya f0)) (same-test height ya some few ∙ e), tt)
 
-  edge-starts : (p q : Point) → Below height (edgeOf height p q)
-  unfolding edgeOf
-  edge-starts p q = go (eq (coordinateOf (p .y)) (coordinateOf (q .y))) (lt (coordinateOf (p .y)) (coordinateOf (q .y)))
+  pub edge-starts : (x0 y0 x1 y1 : Float) → Below height (edgeBetween height x0 y0 x1 y1)
+  unfolding edgeBetween
+  edge-starts x0 y0 x1 y1 = go (eq y0 y1) (lt y0 y1)
     where
-      go : (c d : Bool) → Below height (cond c [] (cond d (slopedOf height (coordinateOf (p .x)) (coordinateOf (p .y)) (coordinateOf (q .x)) (coordinateOf (q .y)) f1) (slopedOf height (coordinateOf (q .x)) (coordinateOf (q .y)) (coordinateOf (p .x)) (coordinateOf (p .y)) f-1)))
-      go true d = tt
-      go false true = sloped-starts (coordinateOf (p .x)) (coordinateOf (p .y)) (coordinateOf (q .x)) (coordinateOf (q .y)) f1
-      go false false = sloped-starts (coordinateOf (q .x)) (coordinateOf (q .y)) (coordinateOf (p .x)) (coordinateOf (p .y)) f-1
+      go : (level falls : Bool) → Below height (cond level [] (cond falls (slopedOf height x0 y0 x1 y1 f1) (slopedOf height x1 y1 x0 y0 f-1)))
+      go true falls = tt
+      go false true = sloped-starts x0 y0 x1 y1 f1
+      go false false = sloped-starts x1 y1 x0 y0 f-1
 
-  walk-starts : (p : Point) (ps : List Point) → Below height (walkOf height p ps)
-  unfolding walkOf
-  walk-starts p [] = tt
-  walk-starts p (q ∷ qs) = both height (edgeOf height p q) (walkOf height q qs) (edge-starts p q) (walk-starts q qs)
-
-  contour-starts : (ps : List Point) → Below height (contourOf height ps)
-  unfolding contourOf
-  contour-starts [] = tt
-  contour-starts (p ∷ ps) = walk-starts (lastOf p ps) (p ∷ ps)
-
-  edges-start : (cs : List (List Point)) → Below height (edgesOf height cs)
-  unfolding edgesOf
-  edges-start [] = tt
-  edges-start (c ∷ cs) = both height (contourOf height c) (edgesOf height cs) (contour-starts c) (edges-start cs)
-
-below-at : (n height : ℕ) (fs : List Float) (at : ℕ) → Below height (edgesAt fs at n) → (j : ℕ) → j < n → startRow (edgeAt fs (at + 5 * j)) < height
+-- of edges that are stored
+pub below-at : (n height : ℕ) (fs : List Float) (at : ℕ) → Below height (edgesAt fs at n) → (j : ℕ) → j < n → startRow (edgeAt fs (at + 5 * j)) < height
 unfolding edgesAt
 below-at zero height fs at b j h = absurd (omega arith)
 below-at (suc n) height fs at b zero h = let e : at + 5 * 0 ≡ at = omega arith in rw e (b .0)
 below-at (suc n) height fs at b (suc j) h = let e : at + 5 * suc j ≡ at + 5 + 5 * j = omega arith in rw e (below-at n height fs (at + 5) (b .1) j (omega arith))
-
--- of edges that are stored
-pub starts-below : (height : ℕ) → 0 < height → height ≤ 4096 → (cs : List (List Point)) (fs : List Float) (at n : ℕ) → edgesAt fs at n ≡ edgesOf height cs
-    → (j : ℕ) → j < n → startRow (edgeAt fs (at + 5 * j)) < height
-starts-below height some few cs fs at n e = below-at n height fs at (subst (Below height) (sym e) (edges-start height some few cs))

@@ -1,4 +1,5 @@
--- The edge table: for each row, the edges that start in it, linked in the order of the list. And what the functions over it promise to each other. Definitions only.
+-- The edge table: for each row, the edges that start in it, linked in the order of the list. And what the functions
+-- over it promise to each other. Definitions only.
 use mathlib.Core.Path.{_≡_}
 use mathlib.Core.Bool.{cond}
 use mathlib.Core.List.{List, [], _∷_, _++_}
@@ -11,23 +12,23 @@ use Rattle.row.specs.Marks.{Ready}
 use Rattle.edge.specs.declared.Edge.{Edge}
 use Rattle.edge.specs.declared.Layout.{Layout}
 use Rattle.edge.specs.Edges.{startRow, startingIn, reachingBelow, piecesOf}
-use Rattle.edge.specs.Stored.{edgeAt, edgesAt, putEdge}
+use Rattle.edge.specs.Floats.{edgeAt, edgesAt, putEdge}
 
 -- ---- places
 
 -- edge j, the edges, and the first n active ones
 abbrev pub nth : List Float → Layout → ℕ → Edge
-nth floats l j = edgeAt floats (l .edges + 5 * j)
+nth floats l j = edgeAt floats (l .width + 5 * j)
 
 abbrev pub edgesIn : List Float → Layout → List Edge
-edgesIn floats l = edgesAt floats (l .edges) (l .count)
+edgesIn floats l = edgesAt floats (l .width) (l .count)
 
 abbrev pub activeIn : List Float → Layout → ℕ → List Edge
 activeIn floats l n = edgesAt floats (l .active) n
 
 -- the parts do not overlap, and there is room for every edge in each
 pub record Placed (floats : List Float) (l : Layout) : Type 0 where
-  pub edges : l .edges + 5 * l .count ≤ l .nexts
+  pub edges : l .width + 5 * l .count ≤ l .nexts
   pub nexts : l .nexts + l .count ≤ l .active
   pub active : l .active + 5 * l .count ≤ length floats
   pub few : l .count ≤ 2048
@@ -48,7 +49,7 @@ abbrev pub Linked : List Float → Layout → ℕ → Type 0
 Linked floats l i = (j : ℕ) → i ≤ j → j < l .count → getD floats (l .nexts + j) nan ≡ ofWhole (nextOf floats l j)
 
 -- the edges from place i on are in the table: each row's head is its first
-pub record Tabled (floats : List Float) (heads : List ℕ) (l : Layout) (i : ℕ) : Type 0 where
+pub record InTable (floats : List Float) (heads : List ℕ) (l : Layout) (i : ℕ) : Type 0 where
   pub head : (row : ℕ) → row < length heads → getD heads row 0 ≡ firstIn floats l row i (l .count - i)
   pub next : Linked floats l i
 
@@ -61,7 +62,7 @@ pub record NextsChanged (before after : List Float) (l : Layout) : Type 0 where
 -- the edges of a row that are left where `at` is one more than the next one's place, or 0
 unfoldable pub listFrom : List Float → Layout → ℕ → ℕ → List Edge
 listFrom floats l row zero = []
-listFrom floats l row (suc k) = nth floats l k ∷ startingIn row (edgesAt floats (l .edges + 5 * (k + 1)) (l .count - (k + 1)))
+listFrom floats l row (suc k) = nth floats l k ∷ startingIn row (edgesAt floats (l .width + 5 * (k + 1)) (l .count - (k + 1)))
 
 -- ---- the active edges
 
@@ -85,14 +86,14 @@ pub record Kept (before : List Float) (l : Layout) (kept : ℕ) (e : Edge) (bott
   pub count : r ≡ cond (lt bottom (e .bottom)) (kept + 1) kept
 
 -- n active edges, and a row's cells before them all
-pub record Row (floats : List Float) (touched : List ℕ) (l : Layout) (n : ℕ) : Type 0 where
-  pub apart : l .edges ≤ l .active
+pub record ActiveRow (floats : List Float) (touched : List ℕ) (l : Layout) (n : ℕ) : Type 0 where
+  pub apart : l .width ≤ l .active
   pub room : l .active + 5 * n ≤ length floats
-  pub ready : Ready (take (l .edges) floats) touched
+  pub ready : Ready (take (l .width) floats) touched
 
 -- their pieces are in the cells, and those that reach below the row are kept
 pub record Pieces (before : List Float) (l : Layout) (n : ℕ) (height top bottom : Float) (after : List Float) (r : ℕ) : Type 0 where
-  pub cells : take (l .edges) after ≡ piecesOf height top bottom (take (l .edges) before) (activeIn before l n)
+  pub cells : take (l .width) after ≡ piecesOf height top bottom (take (l .width) before) (activeIn before l n)
   pub kept : activeIn after l r ≡ reachingBelow bottom (activeIn before l n)
   pub few : r ≤ n
-  pub between : (i : ℕ) → l .edges ≤ i → i < l .active → getD after i nan ≡ getD before i nan
+  pub between : (i : ℕ) → l .width ≤ i → i < l .active → getD after i nan ≡ getD before i nan

@@ -3,7 +3,7 @@
 // All of them stand in lent scratch:
 //
 //     floats:    [ width cells ][ 5 × points: edges ][ points: nexts ][ 5 × points: active edges ]
-//     counters:  [ 1 + (width + 63) / 64: touched words ][ height: heads ]
+//     counters:  [ row::mark_words(width): marks ][ height: heads ]
 //
 // A row's head is one more than the place of the first edge that starts in it, an edge's next one
 // more than that of the next edge of the same row, and 0 ends the list.
@@ -12,9 +12,9 @@ ghost use Prim.Native.Nat.{ℕ, _+_, _*_, _≤_, _<_};
 ghost use lib.ListN.{length, getD, set, take};
 ghost use Rattle.float.specs.Whole.{ofWhole};
 ghost use Rattle.row.specs.Marks.{Ready};
-ghost use Rattle.edge.specs.Edges.{slopedOf, startRow, atOf, pieceOf};
-ghost use Rattle.edge.specs.Stored.{edgeAt, putEdge, edgeBetween, Pushed};
-ghost use Rattle.edge.specs.Table.{nth, Placed, Tabled, NextsChanged, Joining, Joined, Kept, Row, Pieces};
+ghost use Rattle.edge.specs.Edges.{slopedOf, edgeBetween, startRow, atOf, pieceOf};
+ghost use Rattle.edge.specs.Floats.{edgeAt, putEdge, Pushed};
+ghost use Rattle.edge.specs.Table.{nth, Placed, InTable, NextsChanged, Joining, Joined, Kept, ActiveRow, Pieces};
 
 // An edge from its top to its bottom: x and y at the top, the y at its bottom, the change in x for
 // each unit of y, and 1 if it was drawn downwards, -1 if upwards.
@@ -34,10 +34,10 @@ impl Edge {
     }
 }
 
-// Where the edges, their nexts and the active edges start in the floats, and how many edges there
-// are. The row's cells stand before the edges.
+// The row's width, where the edges' nexts and the active edges start in the floats, and how many
+// edges there are. The edges start where the row's cells end.
 pub struct Layout {
-    pub edges: usize,
+    pub width: usize,
     pub nexts: usize,
     pub active: usize,
     pub count: usize,
@@ -150,13 +150,13 @@ pub fn table(floats: &mut [f32], heads: &mut [u64], l: Layout)
     requires { ⌜ Placed (now floats) l ⌝ }
     requires { ⌜ ((row : ℕ) → row < length (now heads) → getD (now heads) row 0 ≡ 0) ⌝ }
     requires { ⌜ ((j : ℕ) → j < l .count → startRow (nth (now floats) l j) < length (now heads)) ⌝ }
-    ensures { λ _. ⌜ Tabled (now (floats .exit)) (now (heads .exit)) l 0 ⌝ }
+    ensures { λ _. ⌜ InTable (now (floats .exit)) (now (heads .exit)) l 0 ⌝ }
     ensures { λ _. ⌜ NextsChanged (now (floats .entry)) (now (floats .exit)) l ⌝ }
 {
     let mut i = l.count;
     while 0 < i {
         i -= 1;
-        let e = load(floats, l.edges + 5 * i);
+        let e = load(floats, l.width + 5 * i);
         link(floats, heads, l.nexts, i, start_row(e));
     }
 }
@@ -175,7 +175,7 @@ pub fn join(floats: &mut [f32], heads: &mut [u64], l: Layout, kept: usize, row: 
     heads[row] = 0;
     while 0 < at {
         let k = at - 1;
-        let e = load(floats, l.edges + 5 * k);
+        let e = load(floats, l.width + 5 * k);
         store(floats, l.active + 5 * n, e);
         let next = l.nexts + k;
         at = float::to_column(floats[next]);
@@ -218,11 +218,11 @@ pub fn pieces(
     bottom: f32,
     height: f32,
 ) -> usize
-    requires { ⌜ Row (now floats) (now touched) l n ⌝ }
+    requires { ⌜ ActiveRow (now floats) (now touched) l n ⌝ }
     ensures { λ r. ⌜ Pieces (now (floats .entry)) l n height top bottom (now (floats .exit)) r ⌝ }
-    ensures { λ r. ⌜ Row (now (floats .exit)) (now (touched .exit)) l r ⌝ }
+    ensures { λ r. ⌜ ActiveRow (now (floats .exit)) (now (touched .exit)) l r ⌝ }
 {
-    let width = l.edges;
+    let width = l.width;
     let mut kept = 0;
     let mut i = 0;
     while i < n {

@@ -4,28 +4,30 @@ use lib.Count.{trailingZeros}
 use lib.Ieee.{ofBits, ofFields, odd, units, round, size, span, climb, ofInt, add, sub, sum, mul, div, rem, neg, lt, le, eq, ne, isNan, toUnsigned}
 use Rattle.float.specs.Simple.{absOf, minOf, maxOf}
 use Rattle.float.specs.Width.{narrowOf}
-use Rattle.float.specs.Root.{rootBelow, wholeRoot, roundRoot, sqrtOf, hypotOf}
-use Rattle.words.specs.Words.{andThen, beyond, readCount, readCoordinate, readPoint, readPoints, readContour, readContours, readGroup, readGroups, readWords, pointsOf, pointsIn}
+use Rattle.roots.specs.Root.{rootBelow, wholeRoot, roundRoot, sqrtOf, hypotOf}
+use Rattle.word_list.specs.Words.{andThen, beyond, readCount, readCoordinate, readPoint, readPoints, readContour, readContours, readGroup, readGroups, readWords, pointsOf, pointsIn}
 use Rattle.row.specs.Row.{addOf, evenlyOf, singleOf, betweenOf, acrossOf, ceilColumn, insideOf, clipOf, spanBy}
-use Rattle.row.specs.Sweep.{shareOf, coveredOf, bytesOf, addBytes}
-use Rattle.edge.specs.Edges.{slopedOf, edgeOf, walkOf, lastOf, contourOf, edgesOf, startingIn, reachingBelow, activeEdges, pieceOf, piecesOf}
-use Rattle.coverage.specs.Drawing.{groupRow, addGroups, rowsFrom}
+use Rattle.sweep.specs.Bytes.{shareOf, coveredOf, bytesOf, addBytes}
+use Rattle.contour.specs.Contours.{walkOf, lastOf, contourOf, edgesOf}
+use Rattle.edge.specs.Edges.{slopedOf, edgeBetween, startingIn, reachingBelow, activeEdges, pieceOf, piecesOf}
+use Rattle.cells.specs.Rows.{rowsFrom}
+use Rattle.coverage.specs.Drawing.{edgesRow, groupRow, addGroups}
 use Rattle.laying.specs.Laying.{laidLine}
 use Rattle.path.specs.Verbs.{unpackedOf}
 use Rattle.shape.specs.Checks.{inRangeOf}
-use Rattle.fit.specs.Outline.{verbCheckOf, verbsCheckOf, floatsOf, floatsNeededOf, allInRangeOf, outlineCheckOf}
-use Rattle.fit.specs.Contour.{samePlaceOf, moveOf, drawOf, contourFrom}
-use Rattle.fit.specs.Fit.{reachOf, sizeBelow, crossOf, turnsOf, turnsAtOf, cornersBelow, closeOf, centredOf, spannedOf, cornersBoxOf, parallelogramOf, contourBoxOf, fitOf}
+use Rattle.outline.specs.Outline.{verbCheckOf, verbsCheckOf, floatsOf, floatsNeededOf, allInRangeOf, outlineCheckOf}
+use Rattle.outline.specs.Contour.{samePlaceOf, moveOf, drawOf, contourFrom}
+use Rattle.fit.specs.Fit.{fromStartOf, sizeBelow, crossOf, turnsOf, turnsAtOf, cornersBelow, closeOf, centredOf, spannedOf, cornersBoxOf, parallelogramOf, contourBoxOf, fitOf}
 use Rattle.examples.specs.Starred.{StarredShown, TellsXFromY}
 
 pub starred-shown : StarredShown
-unfolding rowsFrom addGroups groupRow piecesOf pieceOf activeEdges reachingBelow startingIn edgesOf contourOf lastOf walkOf edgeOf slopedOf
+unfolding rowsFrom addGroups groupRow edgesRow piecesOf pieceOf activeEdges reachingBelow startingIn edgesOf contourOf lastOf walkOf edgeBetween slopedOf
     addBytes bytesOf coveredOf shareOf absOf minOf maxOf clipOf spanBy insideOf ceilColumn acrossOf betweenOf singleOf evenlyOf addOf
     andThen beyond readCount readCoordinate readPoint readPoints readContour readContours readGroup readGroups readWords pointsOf pointsIn
     ofBits ofFields odd units round size span climb ofInt add sub sum mul div rem neg lt le eq ne isNan toUnsigned trailingZeros
     laidLine
     unpackedOf verbCheckOf verbsCheckOf floatsOf floatsNeededOf inRangeOf allInRangeOf outlineCheckOf samePlaceOf moveOf drawOf contourFrom
-    reachOf sizeBelow crossOf turnsOf turnsAtOf cornersBelow closeOf centredOf spannedOf cornersBoxOf parallelogramOf contourBoxOf fitOf
+    fromStartOf sizeBelow crossOf turnsOf turnsAtOf cornersBelow closeOf centredOf spannedOf cornersBoxOf parallelogramOf contourBoxOf fitOf
     narrowOf rootBelow wholeRoot roundRoot sqrtOf hypotOf
 starred-shown = (
   (refl, refl, refl, refl),
@@ -60,7 +62,7 @@ starred-shown = (
 )
 
 pub tells-x-from-y : TellsXFromY
-unfolding rowsFrom addGroups groupRow piecesOf pieceOf activeEdges reachingBelow startingIn edgesOf contourOf lastOf walkOf edgeOf slopedOf
+unfolding rowsFrom addGroups groupRow edgesRow piecesOf pieceOf activeEdges reachingBelow startingIn edgesOf contourOf lastOf walkOf edgeBetween slopedOf
     addBytes bytesOf coveredOf shareOf absOf minOf maxOf clipOf spanBy insideOf ceilColumn acrossOf betweenOf singleOf evenlyOf addOf
     andThen beyond readCount readCoordinate readPoint readPoints readContour readContours readGroup readGroups readWords pointsOf pointsIn
     ofBits ofFields odd units round size span climb ofInt add sub sum mul div rem neg lt le eq ne isNan toUnsigned trailingZeros

@@ -1,4 +1,5 @@
--- Document 01, 'Examples, twelve of them starred': 'Starred ones are proved of the definitions, as one table under a common theorem'. Definitions only; proofs/Shown.antt computes them.
+-- Document 01, 'Examples, twelve of them starred': 'Starred ones are proved of the definitions, as one table under a
+-- common theorem'. Definitions only; proofs/Shown.antt computes them.
 use mathlib.Core.Path.{_≡_}
 use mathlib.Core.List.{List, [], _∷_, _++_}
 use Prim.Native.Nat.{ℕ}
@@ -6,20 +7,21 @@ use lib.IntN.{ℤ, pos, negsuc}
 use lib.ListN.{length, replicate}
 use lib.Ieee.{Float, binary32, ofBits}
 use Rattle.float.specs.Ops.{f0, f1, f2}
-use Rattle.coverage.specs.declared.Size.{Size}
+use Rattle.cells.specs.declared.Size.{Size}
 use Rattle.laying.specs.declared.Offset.{Offset}
-use Rattle.mask.specs.Calls.{drawAnswer, maskAfterDrawing, floatsAfterDrawing, countersAfterDrawing, layAnswer, maskAfterLaying}
-use Rattle.mask.specs.declared.Outcome.{Outcome}
+use Rattle.laying.specs.Laying.{Laying, laying}
+use Rattle.mask.specs.Calls.{Drawing, drawing, lent, drawAnswer, maskAfterDrawing, floatsAfterDrawing, countersAfterDrawing, layAnswer, maskAfterLaying}
 use Rattle.mask.specs.declared.Outcome.the-variants.{Done}
 use Rattle.shape.specs.declared.BoxAnswer.{BoxAnswer}
 use Rattle.shape.specs.declared.BoxAnswer.the-variants as box
 use Rattle.fit.specs.Fit.{fitCall}
 
--- a call that document 01 gives, and what it says of it: the cells that a drawing or a laying-on leaves, or the fitter's answer
+-- a call that document 01 gives, and what it says of it: the cells that a drawing or a laying-on leaves, or the
+-- fitter's answer
 pub data Example : Type 0 where
-  drawing : (words : List ℤ) (cells : List ℕ) → Example
-  laying : (cells : List ℕ) (other : List ℕ) (offset : Offset) (after : List ℕ) → Example
-  outline : (verbs : List ℕ) (positions : List Float) (answer : BoxAnswer) → Example
+  draws : (words : List ℤ) (cells : List ℕ) → Example
+  lays : (cells : List ℕ) (other : List ℕ) (offset : Offset) (after : List ℕ) → Example
+  fits : (verbs : List ℕ) (positions : List Float) (answer : BoxAnswer) → Example
 
 -- ---- what is lent: one byte more than the mask needs, and scratch that holds rubbish
 
@@ -36,21 +38,25 @@ floats = replicate 122 f1
 abbrev pub counters : List ℕ
 counters = 5 ∷ 6 ∷ 7 ∷ []
 
-abbrev pub answerTo : List ℤ → List ℕ → Outcome
-answerTo words mask = drawAnswer (row 2) words (record { mask = length mask; floats = length floats; counters = length counters })
+abbrev pub mask : List ℕ
+mask = 8 ∷ 9 ∷ past
 
 -- ---- what is shown: the answer, every byte lent, all scratch
 
+abbrev pub ShownDrawing : Drawing → List ℕ → Type 0
+ShownDrawing d cells =
+    (drawAnswer d (lent mask) ≡ Done) × (maskAfterDrawing (drawAnswer d (lent mask)) d mask ≡ cells ++ past)
+    × (floatsAfterDrawing (drawAnswer d (lent mask)) floats ≡ replicate (length floats) f0)
+    × (countersAfterDrawing (drawAnswer d (lent mask)) counters ≡ replicate (length counters) 0)
+
+abbrev pub ShownLaying : Laying → List ℕ → List ℕ → List ℕ → Type 0
+ShownLaying l cells other after =
+    (layAnswer l (lent cells) (length other) ≡ Done) × (maskAfterLaying (layAnswer l (lent cells) (length other)) l cells other ≡ after)
+
 abbrev pub Shown : Example → Type 0
-Shown (drawing words cells) =
-    (answerTo words (8 ∷ 9 ∷ past) ≡ Done)
-    × (maskAfterDrawing (answerTo words (8 ∷ 9 ∷ past)) (row 2) words (8 ∷ 9 ∷ past) ≡ cells ++ past)
-    × (floatsAfterDrawing (answerTo words (8 ∷ 9 ∷ past)) floats ≡ replicate (length floats) f0)
-    × (countersAfterDrawing (answerTo words (8 ∷ 9 ∷ past)) counters ≡ replicate (length counters) 0)
-Shown (laying cells other offset after) =
-    (layAnswer (row (length cells)) (row (length other)) (length (cells ++ past)) (length (other ++ past)) ≡ Done)
-    × (maskAfterLaying (layAnswer (row (length cells)) (row (length other)) (length (cells ++ past)) (length (other ++ past))) (row (length cells)) (row (length other)) offset (cells ++ past) (other ++ past) ≡ after ++ past)
-Shown (outline verbs positions answer) = fitCall verbs positions ≡ answer
+Shown (draws words cells) = ShownDrawing (drawing (row 2) words floats counters) cells
+Shown (lays cells other offset after) = ShownLaying (laying (row (length cells)) (row (length other)) offset) (cells ++ past) (other ++ past) (after ++ past)
+Shown (fits verbs positions answer) = fitCall verbs positions ≡ answer
 
 -- ---- the twelve
 
@@ -68,27 +74,27 @@ f4 = ofBits binary32 0x4080_0000
 abbrev pub starred : List Example
 starred =
     -- 'on a mask two cells wide and one high': 'to (256,256), non-zero: 255 0'
-    drawing (pos 0 ∷ pos 1 ∷ rectangle 256 []) (255 ∷ 0 ∷ [])
+    draws (pos 0 ∷ pos 1 ∷ rectangle 256 []) (255 ∷ 0 ∷ [])
     -- 'to (128,256): 128 0'
-    ∷ drawing (pos 0 ∷ pos 1 ∷ rectangle 128 []) (128 ∷ 0 ∷ [])
+    ∷ draws (pos 0 ∷ pos 1 ∷ rectangle 128 []) (128 ∷ 0 ∷ [])
     -- 'the first square twice in one group, even-odd: 0 0'
-    ∷ drawing (pos 1 ∷ pos 2 ∷ rectangle 256 (rectangle 256 [])) (0 ∷ 0 ∷ [])
+    ∷ draws (pos 1 ∷ pos 2 ∷ rectangle 256 (rectangle 256 [])) (0 ∷ 0 ∷ [])
     -- 'the same, non-zero: 255 0'
-    ∷ drawing (pos 0 ∷ pos 2 ∷ rectangle 256 (rectangle 256 [])) (255 ∷ 0 ∷ [])
+    ∷ draws (pos 0 ∷ pos 2 ∷ rectangle 256 (rectangle 256 [])) (255 ∷ 0 ∷ [])
     -- 'two groups of the half square: 255 0'
-    ∷ drawing (pos 0 ∷ pos 1 ∷ rectangle 128 (pos 0 ∷ pos 1 ∷ rectangle 128 [])) (255 ∷ 0 ∷ [])
+    ∷ draws (pos 0 ∷ pos 1 ∷ rectangle 128 (pos 0 ∷ pos 1 ∷ rectangle 128 [])) (255 ∷ 0 ∷ [])
     -- 'Laying on one cell: 128 by 128 is 64; 1 by 127 is 0; 1 by 128 is 1.'
-    ∷ laying (128 ∷ []) (128 ∷ []) (columns (pos 0)) (64 ∷ [])
-    ∷ laying (1 ∷ []) (127 ∷ []) (columns (pos 0)) (0 ∷ [])
-    ∷ laying (1 ∷ []) (128 ∷ []) (columns (pos 0)) (1 ∷ [])
+    ∷ lays (128 ∷ []) (128 ∷ []) (columns (pos 0)) (64 ∷ [])
+    ∷ lays (1 ∷ []) (127 ∷ []) (columns (pos 0)) (0 ∷ [])
+    ∷ lays (1 ∷ []) (128 ∷ []) (columns (pos 0)) (1 ∷ [])
     -- 'On 10 20 30 with 255 255: offset (1,0) gives 10 0 0; offset (−1,0) gives 0 20 30'
-    ∷ laying (10 ∷ 20 ∷ 30 ∷ []) (255 ∷ 255 ∷ []) (columns (pos 1)) (10 ∷ 0 ∷ 0 ∷ [])
-    ∷ laying (10 ∷ 20 ∷ 30 ∷ []) (255 ∷ 255 ∷ []) (columns (negsuc 0)) (0 ∷ 20 ∷ 30 ∷ [])
+    ∷ lays (10 ∷ 20 ∷ 30 ∷ []) (255 ∷ 255 ∷ []) (columns (pos 1)) (10 ∷ 0 ∷ 0 ∷ [])
+    ∷ lays (10 ∷ 20 ∷ 30 ∷ []) (255 ∷ 255 ∷ []) (columns (negsuc 0)) (0 ∷ 20 ∷ 30 ∷ [])
     -- 'MoveTo (0,0), LineTo (4,0), (4,2), (0,2), Close: half extents 2 and 1, frame 1 0 0 1 2 1'
-    ∷ outline (0 ∷ 1 ∷ 1 ∷ 1 ∷ 5 ∷ []) (f0 ∷ f0 ∷ f4 ∷ f0 ∷ f4 ∷ f2 ∷ f0 ∷ f2 ∷ [])
+    ∷ fits (0 ∷ 1 ∷ 1 ∷ 1 ∷ 5 ∷ []) (f0 ∷ f0 ∷ f4 ∷ f0 ∷ f4 ∷ f2 ∷ f0 ∷ f2 ∷ [])
     (box.Box (record { frame = record { a = f1; b = f0; c = f0; d = f1; x = f2; y = f1 }; ex = f2; ey = f1; rx = f0; ry = f0 }))
     -- 'MoveTo, Close, MoveTo, LineTo: no box'
-    ∷ outline (0 ∷ 5 ∷ 0 ∷ 1 ∷ []) (f0 ∷ f0 ∷ f0 ∷ f0 ∷ f4 ∷ f0 ∷ []) box.NoBox
+    ∷ fits (0 ∷ 5 ∷ 0 ∷ 1 ∷ []) (f0 ∷ f0 ∷ f0 ∷ f0 ∷ f4 ∷ f0 ∷ []) box.NoBox
     ∷ []
 
 -- ---- the theorem
@@ -102,4 +108,4 @@ StarredShown = All Shown starred
 
 -- beside them: a rectangle to (512,256) covers both cells; with x and y taken for each other it would cover one
 abbrev pub TellsXFromY : Type 0
-TellsXFromY = Shown (drawing (pos 0 ∷ pos 1 ∷ rectangle 512 []) (255 ∷ 255 ∷ []))
+TellsXFromY = Shown (draws (pos 0 ∷ pos 1 ∷ rectangle 512 []) (255 ∷ 255 ∷ []))

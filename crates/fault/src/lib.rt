@@ -1,6 +1,7 @@
-// Why a call is turned away: document 01's table of causes.
+// Why a call is turned away: document 01's table of causes, and what a look at a call's arguments says.
 ghost use mathlib.Core.Path.{_≡_};
 ghost use Rattle.fault.specs.Number.{numberOf};
+ghost use Rattle.fault.specs.Check.{unlessOf, _andThen_};
 
 // One variant for each of the table's twelve causes, in its words.
 pub enum Fault {
@@ -48,6 +49,35 @@ impl Fault {
             Fault::CurveVerb => 10,
             Fault::TooManyVerbs => 11,
             Fault::TooManyBoxes => 12,
+        }
+    }
+}
+
+// What a look at a call's arguments says.
+pub enum Check {
+    Pass,
+    Refused(Fault),
+}
+
+impl Check {
+    // A fault, unless a test passes.
+    pub fn unless(good: bool, fault: Fault) -> Check
+        ensures { λ r. ⌜ r ≡ unlessOf good fault ⌝ }
+    {
+        if good {
+            Check::Pass
+        } else {
+            Check::Refused(fault)
+        }
+    }
+
+    // The first of two that refuses.
+    pub fn and_then(self, next: Check) -> Check
+        ensures { λ r. ⌜ r ≡ self andThen next ⌝ }
+    {
+        match self {
+            Check::Pass => next,
+            Check::Refused(fault) => Check::Refused(fault),
         }
     }
 }

@@ -388,7 +388,7 @@ fn next_float(line: &[u8; MOST_LINE], out: &mut [f32; MOST_FLOATS], l: List) -> 
 }
 
 // So many floats.
-pub fn floats(
+fn floats(
     line: &[u8; MOST_LINE],
     from: usize,
     wanted: usize,
@@ -401,6 +401,21 @@ pub fn floats(
         turns -= 1;
     }
     l
+}
+
+// So many floats, behind which the line ends.
+pub fn last_floats(
+    line: &[u8; MOST_LINE],
+    from: usize,
+    wanted: usize,
+    out: &mut [f32; MOST_FLOATS],
+) -> List {
+    let list = floats(line, from, wanted, out);
+    let problem = list.problem;
+    let Problem::Nothing = problem else {
+        return list;
+    };
+    ended(list, at_end(line, list.at))
 }
 
 fn next_verb(line: &[u8; MOST_LINE], out: &mut [u8; MOST_VERBS], l: List) -> List {

@@ -1,6 +1,3 @@
-pub mod Scan
-pub mod Walking
-pub mod Points
-pub mod Contouring
+-- Turning: the loops over an outline's points, and its four corners. Closing: the end of the walk.
 pub mod Turning
 pub mod Closing

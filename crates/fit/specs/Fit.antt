@@ -1,4 +1,5 @@
--- shape.rs's `parallelogram` and `fit`, for straight outlines. `⊕ ⊖ ⊗ ⊘` are binary32's operations, and each rounds once. Definitions only.
+-- shape.rs's `parallelogram` and `fit`, for straight outlines. `⊕ ⊖ ⊗ ⊘` are binary32's operations, and each rounds
+-- once. Definitions only.
 use mathlib.Core.Bool.{Bool, cond, _&&_}
 use mathlib.Core.List.{List, [], _∷_, _++_}
 use Prim.Native.Nat.{ℕ, zero, suc, _+_, _-_, _%_}
@@ -6,18 +7,18 @@ use lib.ListN.{length, getD, take}
 use lib.Ieee.{Float, binary32, ofBits, lt, le}
 use Rattle.float.specs.Ops.{_⊕_, _⊖_, _⊗_, _⊘_, f0, f½}
 use Rattle.float.specs.Simple.{absOf, maxOf}
-use Rattle.float.specs.Root.{hypotOf}
+use Rattle.roots.specs.Root.{hypotOf}
 use Rattle.geometry.specs.declared.Position.{Position}
 use Rattle.shape.specs.declared.RoundedBox.{RoundedBox}
 use Rattle.shape.specs.declared.MaybeBox.{MaybeBox}
 use Rattle.shape.specs.declared.MaybeBox.the-variants as maybe
 use Rattle.shape.specs.declared.BoxAnswer.{BoxAnswer}
 use Rattle.shape.specs.Calls.{boxUnless}
-use Rattle.fit.specs.declared.Segment.{Segment}
-use Rattle.fit.specs.declared.Segment.the-variants as segment
+use Rattle.outline.specs.declared.Segment.{Segment}
+use Rattle.outline.specs.declared.Segment.the-variants as segment
+use Rattle.outline.specs.Outline.{outlineCheckOf}
+use Rattle.outline.specs.Contour.{Contour, Walked, stopped, reached, origin, contourOf, emptyOf, samePlaceOf, linePointsOf, allLinesOf}
 use Rattle.fit.specs.declared.Corners.{Corners}
-use Rattle.fit.specs.Outline.{outlineCheckOf}
-use Rattle.fit.specs.Contour.{Contour, Walked, stopped, reached, origin, newContour, contourFrom, emptyOf, samePlaceOf, linePointsOf, allLinesOf}
 
 -- CORNER_TOLERANCE, 1e-4
 abbrev pub cornerTolerance : Float
@@ -26,13 +27,13 @@ cornerTolerance = ofBits binary32 0x38d1_b717
 -- ---- the size: a fold of the larger from 0
 
 -- `(p[0] - start[0]).abs().max((p[1] - start[1]).abs())`
-unfoldable pub reachOf : Position → Position → Float
-reachOf start p = maxOf (absOf (p .x ⊖ start .x)) (absOf (p .y ⊖ start .y))
+unfoldable pub fromStartOf : Position → Position → Float
+fromStartOf start p = maxOf (absOf (p .x ⊖ start .x)) (absOf (p .y ⊖ start .y))
 
 -- the size of the first i points
 unfoldable pub sizeBelow : Position → List Position → ℕ → Float
 sizeBelow start points zero = f0
-sizeBelow start points (suc i) = maxOf (sizeBelow start points i) (reachOf start (getD points i origin))
+sizeBelow start points (suc i) = maxOf (sizeBelow start points i) (fromStartOf start (getD points i origin))
 
 abbrev pub sizeOf : Position → List Position → Float
 sizeOf start points = sizeBelow start points (length points)
@@ -126,9 +127,6 @@ contourBoxOf k = cond (k .started) (cond (emptyOf (closedOf k)) maybe.NoBox (seg
 abbrev pub walkedBoxOf : Walked → MaybeBox
 walkedBoxOf stopped = maybe.NoBox
 walkedBoxOf (reached k) = contourBoxOf k
-
-abbrev pub contourOf : List ℕ → List Float → Walked
-contourOf verbs positions = contourFrom (reached newContour) verbs positions 0
 
 unfoldable pub fitOf : List ℕ → List Float → MaybeBox
 fitOf verbs positions = walkedBoxOf (contourOf verbs positions)

@@ -1,5 +1,3 @@
--- Outline: what is refused. Contour: the walk over the verbs. Fit: the parallelogram, and the public call. Kept: what the code keeps of them, for its parts.
-pub mod Outline
-pub mod Contour
+-- Fit: the parallelogram, and the public call. Kept: what the code keeps of it, for its parts.
 pub mod Fit
 pub mod Kept

@@ -1,5 +1,5 @@
--- What the casts are (`CastBeliefs` of specs/Beliefs.antt), in exact fractions: a whole number up to 2 ^ 24 as a float is that number, and a float cut to w bits is the whole
--- number at it or below it. Assumes nothing.
+-- What the casts are (`CastBeliefs` of specs/Beliefs.antt), in exact fractions: a whole number up to 2 ^ 24 as a
+-- float is that number, and a float cut to w bits is the whole number at it or below it. Assumes nothing.
 use mathlib.Core.Path.{_≡_}
 use mathlib.Core.Bool.{true, false}
 use Prim.Native.Nat.{ℕ, _+_, _*_, _/_, _-_, _^_, _≤_, _<_, min}

@@ -4,34 +4,27 @@ use mathlib.Core.List.{List, [], _∷_}
 use mathlib.Core.Bool.{Bool, true, _&&_}
 use Prim.Native.Nat.{ℕ}
 use lib.Dec.{eqb}
-use lib.Ieee.{Float, binary32, binary64, ofBits, toBits, neg, add, mul, lt, isNan, round}
+use lib.Ieee.{Float, binary32, binary64, ofBits, toBits, neg, lt, isNan, round}
 use Rattle.float.specs.Simple.{absOf, minOf, maxOf, signumOf}
 use Rattle.float.specs.Width.{narrowOf}
 use Rattle.float.specs.Whole.{integralOf, floorOf, ceilOf}
-use Rattle.float.specs.Root.{sqrtOf, hypotOf}
 
 -- the float of a bit pattern
-abbrev f32 : ℕ → Float
+abbrev pub f32 : ℕ → Float
 f32 n = ofBits binary32 n
 
-abbrev f64 : ℕ → Float
+abbrev pub f64 : ℕ → Float
 f64 n = ofBits binary64 n
 
 -- what a definition gives, as a bit pattern, and the answer
-agrees : List (ℕ × ℕ) → Bool
+unfoldable pub agrees : List (ℕ × ℕ) → Bool
 agrees [] = true
 agrees (r ∷ rs) = eqb (r .0) (r .1) && agrees rs
 
 abbrev table : List (ℕ × ℕ)
 table =
-    -- the root of 2 at both widths, and of the smallest f64
-    (toBits binary32 (sqrtOf binary32 (f32 0x4000_0000)), 0x3fb5_04f3)
-    ∷ (toBits binary64 (sqrtOf binary64 (f64 0x4000_0000_0000_0000)), 0x3ff6_a09e_667f_3bcd)
-    ∷ (toBits binary64 (sqrtOf binary64 (f64 1)), 0x1e60_0000_0000_0000)
-    -- hypot of 3 and 4
-    ∷ (toBits binary32 (hypotOf (f32 0x4040_0000) (f32 0x4080_0000)), 0x40a0_0000)
     -- 1 + 2 ^ -24 is a tie and goes to the even 1, 1 + 3 * 2 ^ -24 up to 1 + 2 ^ -22
-    ∷ (toBits binary32 (narrowOf (f64 0x3ff0_0000_1000_0000)), 0x3f80_0000)
+    (toBits binary32 (narrowOf (f64 0x3ff0_0000_1000_0000)), 0x3f80_0000)
     ∷ (toBits binary32 (narrowOf (f64 0x3ff0_0000_3000_0000)), 0x3f80_0002)
     -- half of the smallest f32 goes to 0, the largest f64 to infinity
     ∷ (toBits binary32 (narrowOf (f64 0x3690_0000_0000_0000)), 0)
@@ -47,5 +40,5 @@ table =
     ∷ []
 
 table-agrees : agrees table ≡ true
-unfolding agrees sqrtOf hypotOf narrowOf integralOf absOf signumOf maxOf minOf neg add mul lt isNan round ofBits toBits
+unfolding agrees narrowOf integralOf absOf signumOf maxOf minOf neg lt isNan round ofBits toBits
 table-agrees = refl

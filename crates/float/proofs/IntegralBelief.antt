@@ -1,5 +1,5 @@
--- What `floorOf` and `ceilOf` are (`IntegralBeliefs` of specs/Beliefs.antt), in exact fractions, for every finite value of binary32: the whole number at x or next to it, below or
--- above. Assumes nothing.
+-- What `floorOf` and `ceilOf` are (`IntegralBeliefs` of specs/Beliefs.antt), in exact fractions, for every finite
+-- value of binary32: the whole number at x or next to it, below or above. Assumes nothing.
 use mathlib.Core.Path.{_≡_, refl, sym, ap, _∙_, subst}
 use mathlib.Core.List.{[], _∷_}
 use mathlib.Core.Bool.{Bool, true, false, cond}
@@ -61,7 +61,8 @@ beside false true w a b B h = (record { le = omega (arith, h .0) }, record { lt 
 beside true false w a b B h = (record { le = omega (arith, h .0) }, record { lt = omega (arith, h .1) })
 beside true true w a b B h = (record { le = omega (arith, h .0) }, record { lt = omega (arith, h .1) })
 
--- ---- the format holds the whole number: a value from 2 ^ 23 on is whole, and below that every whole number up to 2 ^ 24 is a value
+-- ---- the format holds the whole number: a value from 2 ^ 23 on is whole, and below that every whole number up to 2
+-- ^ 24 is a value
 exact : (t s : Bool) (m : ℕ) (e : ℤ) → T (fits binary32 (fin s m e)) → HasValue (round binary32 s (wholeDiv t (m * up e) (down e)) 1) s (wholeDiv t (m * up e) (down e)) 1
 exact t s m (pos k) h =
     let n = m * 2 ^ k in

@@ -1,4 +1,5 @@
--- What `narrowOf` is (`NarrowBeliefs` of specs/Beliefs.antt): the one rounding of crates/rounding, so that what is proved of that holds of it. Assumes nothing.
+-- What `narrowOf` is (`NarrowBeliefs` of specs/Beliefs.antt): the one rounding of crates/rounding, so that what is
+-- proved of that holds of it. Assumes nothing.
 use mathlib.Core.Path.{_≡_, refl}
 use mathlib.Core.Bool.{Bool}
 use Prim.Native.Nat.{ℕ, _*_, _^_}

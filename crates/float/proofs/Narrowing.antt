@@ -1,4 +1,5 @@
--- What the proofs of `narrow_finite` and `narrow` cite: by x's digits and exponent, which value of binary32 is nearest. Assumes nothing.
+-- What the proofs of `narrow_finite` and `narrow` cite: by x's digits and exponent, which value of binary32 is
+-- nearest. Assumes nothing.
 use mathlib.Core.Path.{_≡_, refl, sym, ap, _∙_}
 use mathlib.Core.Logic.{_⊎_, inl, inr}
 use mathlib.Core.Bool.{Bool, true, false}

@@ -1,5 +1,5 @@
--- What the proofs of `abs`, `max`, `min`, `signum` and `is_finite` cite: each return's value is the definition's, by cases on the float.
--- Assumes nothing.
+-- What the proofs of `abs`, `max`, `min`, `signum` and `is_finite` cite: each return's value is the definition's, by
+-- cases on the float. Assumes nothing.
 use mathlib.Core.Path.{_≡_, refl, sym, ap, _∙_}
 use mathlib.Core.Bool.{Bool, true, false, cond}
 use Prim.Native.Nat.{ℕ, zero, suc, _*_, _^_, _<_}

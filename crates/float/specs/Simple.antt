@@ -1,4 +1,5 @@
--- Size, smaller, larger and sign of a float, for every value: NaN, infinities, both zeros and subnormals. Definitions only.
+-- Size, smaller, larger and sign of a float, for every value: NaN, infinities, both zeros and subnormals. Definitions
+-- only.
 use mathlib.Core.Bool.{Bool, false, cond, _||_}
 use lib.Ieee.{Float, nan, inf, fin, lt, isNan}
 use Rattle.float.specs.Ops.{f1, f-1}

@@ -1,5 +1,6 @@
--- Floats and whole numbers: floor, ceiling and the casts. A finite value `fin s m e` is m * up e / down e, negative where s is true.
--- `lib.Ieee.round f s a b` is the value of the format f that is nearest to a / b with the sign s, ties to even. Definitions only.
+-- Floats and whole numbers: floor, ceiling and the casts. A finite value `fin s m e` is m * up e / down e, negative
+-- where s is true. `lib.Ieee.round f s a b` is the value of the format f that is nearest to a / b with the sign s,
+-- ties to even. Definitions only.
 use Prim.Native.Nat.{ℕ, _+_, _*_, _/_, _%_}
 use mathlib.Core.Bool.{Bool, true, false, cond}
 use lib.Dec.{eqb}
@@ -15,14 +16,16 @@ stepAway true q left = cond (eqb left 0) q (q + 1)
 abbrev pub wholeDiv : Bool → ℕ → ℕ → ℕ
 wholeDiv t a b = stepAway t (a / b) (a % b)
 
--- IEEE 754's roundToIntegralTowardNegative, and (`true`) roundToIntegralTowardPositive: the size grows where the value is negative and goes down, or positive
--- and goes up. The sign stays, also where the result is zero: -0.5 goes up to -0. A NaN and the infinities stay
+-- IEEE 754's roundToIntegralTowardNegative, and (`true`) roundToIntegralTowardPositive: the size grows where the
+-- value is negative and goes down, or positive and goes up. The sign stays, also where the result is zero: -0.5 goes
+-- up to -0. A NaN and the infinities stay
 unfoldable pub integralOf : Bool → Float → Float
 integralOf u nan = nan
 integralOf u (inf s) = inf s
 integralOf u (fin s m e) = round binary32 s (wholeDiv (unlike s u) (m * up e) (down e)) 1
 
--- floor, IEEE 754's roundToIntegralTowardNegative: the largest whole number that is no larger (`floor-below` in Beliefs.antt)
+-- floor, IEEE 754's roundToIntegralTowardNegative: the largest whole number that is no larger (`floor-below` in
+-- Beliefs.antt)
 abbrev pub floorOf : Float → Float
 floorOf x = integralOf false x
 
@@ -30,8 +33,9 @@ floorOf x = integralOf false x
 abbrev pub ceilOf : Float → Float
 ceilOf x = integralOf true x
 
--- IEEE 754's convertToIntegerTowardZero to 13 bits, as Rust's `as` completes it: what is out of range becomes the nearer end, a NaN 0.
--- Document 01 has masks of up to 4,096 columns, so every column, and the one past the last, is below 8,192
+-- IEEE 754's convertToIntegerTowardZero to 13 bits, as Rust's `as` completes it: what is out of range becomes the
+-- nearer end, a NaN 0. Document 01 has masks of up to 4,096 columns, so every column, and the one past the last, is
+-- below 8,192
 abbrev pub columnOf : Float → ℕ
 columnOf x = toUnsigned 13 x
 

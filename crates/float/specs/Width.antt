@@ -1,5 +1,5 @@
--- The change of width from f64 to f32. (From f32 to f64 nothing changes: one type of values serves both, and binary64 holds every value of binary32.)
--- Definitions only.
+-- The change of width from f64 to f32. (From f32 to f64 nothing changes: one type of values serves both, and binary64
+-- holds every value of binary32.) Definitions only.
 use Prim.Native.Nat.{_*_}
 use lib.Ieee.{Float, nan, inf, fin, binary32, up, down, round}
 

@@ -7,7 +7,7 @@ ghost use lib.Ieee.Scale.{finite};
 ghost use Rattle.float.specs.Simple.{absOf, minOf, maxOf, signumOf};
 ghost use Rattle.float.specs.Width.{narrowOf};
 ghost use Rattle.float.specs.Whole.{floorOf, ceilOf, columnOf, byteOf, ofWhole};
-ghost use Rattle.float.specs.Root.{sqrtOf, hypotOf};
+ghost use Rattle.roots.specs.Root.{sqrtOf, hypotOf};
 
 #[no_mangle]
 pub extern "C" fn beamnettle_float_abs(x: f32) -> f32
@@ -62,21 +62,21 @@ pub extern "C" fn beamnettle_float_narrow(x: f64) -> f32
 pub extern "C" fn beamnettle_float_sqrt(x: f32) -> f32
     ensures { λ r. ⌜ r ≡ sqrtOf binary32 x ⌝ }
 {
-    float::sqrt(x)
+    roots::sqrt(x)
 }
 
 #[no_mangle]
 pub extern "C" fn beamnettle_float_sqrt64(x: f64) -> f64
     ensures { λ r. ⌜ r ≡ sqrtOf binary64 x ⌝ }
 {
-    float::sqrt64(x)
+    roots::sqrt64(x)
 }
 
 #[no_mangle]
 pub extern "C" fn beamnettle_float_hypot(x: f32, y: f32) -> f32
     ensures { λ r. ⌜ r ≡ hypotOf x y ⌝ }
 {
-    float::hypot(x, y)
+    roots::hypot(x, y)
 }
 
 #[no_mangle]

@@ -1,5 +1,6 @@
--- The smaller and the larger of two, and a number held between 0 and 1. `min-at`, `max-at` and `clamp-at` bring them over a common denominator, where `omega` reads
--- `min` and `max`: so a fact about them is one line, as a linear one is. Assumes nothing.
+-- The smaller and the larger of two, and a number held between 0 and 1. `min-at`, `max-at` and `clamp-at` bring them
+-- over a common denominator, where `omega` reads `min` and `max`: so a fact about them is one line, as a linear one
+-- is. Assumes nothing.
 use mathlib.Core.Path.{_≡_, refl, ap}
 use mathlib.Core.List.{[], _∷_}
 use mathlib.Core.Bool.{Bool, true, false, not, cond}

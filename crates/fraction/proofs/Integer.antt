@@ -1,4 +1,5 @@
--- The integers of `lib.IntN` as differences: sums, products and the order go over, and two integers with the same difference are equal. So a law of ℤ is one line of `omega`. Assumes nothing.
+-- The integers of `lib.IntN` as differences: sums, products and the order go over, and two integers with the same
+-- difference are equal. So a law of ℤ is one line of `omega`. Assumes nothing.
 use mathlib.Core.Path.{_≡_, refl, ap}
 use mathlib.Core.Bool.{Bool, true, false, not, cond}
 use Prim.Native.Nat.{ℕ, zero, suc, _+_, _-_, _*_, _≤_, _<_}

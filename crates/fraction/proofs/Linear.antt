@@ -1,10 +1,12 @@
--- LINEAR FACTS OVER FRACTIONS, BY `omega`. `over` brings a list of fractions to a common denominator N. `At N x` is the whole number z with x = z / N.
--- `search at` finds it for a sum, a difference or a negation, from those of its parts. `at-le` takes a hypothesis x ≤ y to one about whole numbers, and `le-at`
--- takes the goal back. In between all is whole and linear, so `omega arith` ends the proof. `trans` and `regroup`, below, show the form. Assumes nothing.
+-- LINEAR FACTS OVER FRACTIONS, BY `omega`. `over` brings a list of fractions to a common denominator N. `At N x` is
+-- the whole number z with x = z / N. `search at` finds it for a sum, a difference or a negation, from those of its
+-- parts. `at-le` takes a hypothesis x ≤ y to one about whole numbers, and `le-at` takes the goal back. In between all
+-- is whole and linear, so `omega arith` ends the proof. `trans` and `regroup`, below, show the form. Assumes nothing.
 use mathlib.Core.Path.{_≡_, refl, sym, ap, _∙_}
 use mathlib.Core.List.{List, [], _∷_}
 use Prim.Native.Nat.{ℕ, _+_, _-_, _*_, _≤_, _<_}
-use native.Mathlib.Nat.{mul-pos, mul-le-mul-right, le-of-mul-le-mul-right, lt-of-mul-lt-mul-right, mul-lt-mul-of-pos-right, eq-of-mul-eq-mul-right, zero-lt-suc, le-of-eq, le-antisymm, le-dest, add-comm}
+use native.Mathlib.Nat.{mul-pos, mul-le-mul-right, le-of-mul-le-mul-right, lt-of-mul-lt-mul-right, mul-lt-mul-of-pos-right}
+use native.Mathlib.Nat.{eq-of-mul-eq-mul-right, zero-lt-suc, le-of-eq, le-antisymm, le-dest, add-comm}
 use native.Mathlib.Decide.{decLe}
 use native.Mathlib.Omega.{arith}
 use lib.Dec.{T, leb→le, eqb→eq, ltb→lt}
@@ -63,7 +65,8 @@ module _ (N : ℕ) where
   abbrev pub neg-at : {x : Fraction} → At N x → At N (negᶠ x)
   neg-at a = record { z = negʷ (a .z); is = neg-is a }
 
-  -- a literal q times x, listed in `over` as a fraction of its own: what ties it to x. For a literal q the fact is linear
+  -- a literal q times x, listed in `over` as a fraction of its own: what ties it to x. For a literal q the fact is
+  -- linear
   pub scale-at : (q : Fraction) {x : Fraction} (a : At N x) (b : At N (q *ᶠ x)) → b .z ×ℕ q .den ≈ʷ q .num *ʷ a .z
   unfolding _*ᶠ_
   scale-at q {x} a b =

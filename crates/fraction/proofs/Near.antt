@@ -1,4 +1,5 @@
--- Errors and bounds: `Near x y e` is |x - y| ≤ e and `Within x b` is |x| ≤ b. How they go through sums and products. Assumes nothing.
+-- Errors and bounds: `Near x y e` is |x - y| ≤ e and `Within x b` is |x| ≤ b. How they go through sums and products.
+-- Assumes nothing.
 use mathlib.Core.List.{[], _∷_}
 use Prim.Native.Nat.{ℕ, zero, suc, _+_, _*_, _≤_, _<_}
 use native.Mathlib.Nat.{mul-pos}

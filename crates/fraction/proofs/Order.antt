@@ -1,4 +1,5 @@
--- The laws of fractions: the order, products, sizes. A linear law is one line by `Linear`; a law of products is `omega` over the naturals that it comes to. Assumes nothing.
+-- The laws of fractions: the order, products, sizes. A linear law is one line by `Linear`; a law of products is
+-- `omega` over the naturals that it comes to. Assumes nothing.
 use mathlib.Core.Path.{_≡_, refl, sym, ap}
 use mathlib.Core.List.{[], _∷_}
 use mathlib.Core.Logic.{_⊎_, inl, inr}
@@ -102,7 +103,9 @@ unfolding _*ᶠ_
 mul-left-comm x y z = record { eq = omega arith }
 
 pub add-mul : (x y z : Fraction) → (x +ᶠ y) *ᶠ z ≈ᶠ x *ᶠ z +ᶠ y *ᶠ z
-add-mul x y z = over (x ∷ y ∷ []) (λ N n X Y. eq-at (N * z .den) (mul-at N (z .den) (add-at N X Y) (self z)) (add-at (N * z .den) (mul-at N (z .den) X (self z)) (mul-at N (z .den) Y (self z))) (mul-pos n (z .pos)) (omega arith))
+add-mul x y z =
+    over (x ∷ y ∷ []) (λ N n X Y. eq-at (N * z .den) (mul-at N (z .den) (add-at N X Y) (self z))
+    (add-at (N * z .den) (mul-at N (z .den) X (self z)) (mul-at N (z .den) Y (self z))) (mul-pos n (z .pos)) (omega arith))
 
 pub one-more : (n : ℕ) (x : Fraction) → natᶠ (suc n) *ᶠ x ≈ᶠ natᶠ n *ᶠ x +ᶠ x
 unfolding _*ᶠ_ _+ᶠ_
@@ -127,7 +130,17 @@ unfolding _*ᶠ_ negᶠ
 mul-neg x y = record { eq = omega arith }
 
 pub mono : (a b c : Whole) → natʷ 0 ≤ʷ a → b ≤ʷ c → a *ʷ b ≤ʷ a *ʷ c
-mono a b c p h = let d = le-dest p in omega (arith, mul-le-mul-left (d .0) h, ap (λ (t : ℕ). t * b .plus) (d .1), ap (λ (t : ℕ). t * c .plus) (d .1), ap (λ (t : ℕ). t * b .minus) (d .1), ap (λ (t : ℕ). t * c .minus) (d .1))
+mono a b c p h =
+    let d =
+    le-dest p in omega (
+      arith,
+      mul-le-mul-left (d .0) h,
+      ap (λ (t : ℕ). t * b .plus) (d .1),
+      ap (λ (t : ℕ). t * c .plus)
+          (d .1),
+      ap (λ (t : ℕ). t * b .minus) (d .1),
+      ap (λ (t : ℕ). t * c .minus) (d .1),
+    )
 
 nonneg : {x : Fraction} → natᶠ 0 ≤ᶠ x → natʷ 0 ≤ʷ x .num
 nonneg p = omega (arith, p .le)
@@ -146,7 +159,9 @@ unfolding _*ᶠ_
 mul-nonneg {x} {y} p q = record { le = omega (arith, mono (x .num) (natʷ 0) (y .num) (nonneg p) (nonneg q)) }
 
 pub sub-mul : (x y z : Fraction) → (x -ᶠ y) *ᶠ z ≈ᶠ x *ᶠ z -ᶠ y *ᶠ z
-sub-mul x y z = over (x ∷ y ∷ []) (λ N n X Y. eq-at (N * z .den) (mul-at N (z .den) (sub-at N X Y) (self z)) (sub-at (N * z .den) (mul-at N (z .den) X (self z)) (mul-at N (z .den) Y (self z))) (mul-pos n (z .pos)) (omega arith))
+sub-mul x y z =
+    over (x ∷ y ∷ []) (λ N n X Y. eq-at (N * z .den) (mul-at N (z .den) (sub-at N X Y) (self z))
+    (sub-at (N * z .den) (mul-at N (z .den) X (self z)) (mul-at N (z .den) Y (self z))) (mul-pos n (z .pos)) (omega arith))
 
 square : (a : Whole) → Dec (a .minus ≤ a .plus) → natʷ 0 ≤ʷ a *ʷ a
 square a (yes l) = omega (arith, mono a (natʷ 0) a (omega arith) (omega arith))

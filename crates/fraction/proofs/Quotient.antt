@@ -54,7 +54,8 @@ module _ (y Y e l : Fraction) (k : Near y Y e) (low : l ≤ᶠ absᶠ Y) (room :
 
 -- the size of a quotient, for a dividend of size at most b and a divisor of size at least l
 pub within-div : (Y : Fraction) {X b l : Fraction} → natᶠ 0 <ᶠ l → l ≤ᶠ absᶠ Y → Within X b → Within (X /ᶠ Y) (b /ᶠ l)
-within-div Y {X} {b} {l} p low w = within-of-abs (le-div p (trans (mul-mono (abs-nonneg (X /ᶠ Y)) low) (trans (of-eq (sym≈ (abs-mul (X /ᶠ Y) Y))) (abs-of-within (within-same (sym≈ (div-mul X Y some)) w)))))
+within-div Y {X} {b} {l} p low w =
+    within-of-abs (le-div p (trans (mul-mono (abs-nonneg (X /ᶠ Y)) low) (trans (of-eq (sym≈ (abs-mul (X /ᶠ Y) Y))) (abs-of-within (within-same (sym≈ (div-mul X Y some)) w)))))
   where
     some : ¬ (Y ≈ᶠ natᶠ 0)
     some z = over (l ∷ Y ∷ natᶠ 0 ∷ []) (λ N n L B O. omega (arith, O .is, at-lt N O L n p, at-le N L (abs-at N n B) low, at-eq N B O z))

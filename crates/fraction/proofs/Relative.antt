@@ -1,4 +1,5 @@
--- Relative errors: `Rel x X r t` is |x - X| ≤ r * |X| + t. Through one value after another, products, sums of one sign, and reciprocals. Assumes nothing.
+-- Relative errors: `Rel x X r t` is |x - X| ≤ r * |X| + t. Through one value after another, products, sums of one
+-- sign, and reciprocals. Assumes nothing.
 use mathlib.Core.Path.{refl}
 use mathlib.Core.List.{[], _∷_}
 use native.Mathlib.Omega.{arith}
@@ -75,7 +76,8 @@ rel-mul {x} {X} {y} {Y} {r} {s} {t} {v} {b} {c} r0 s0 t0 v0 h k p q =
     more : {w : Fraction} → natᶠ 0 ≤ᶠ w → natᶠ 0 ≤ᶠ natᶠ 1 +ᶠ w
     more {w} h = over (natᶠ 0 ∷ natᶠ 1 ∷ w ∷ []) (λ N n O I W. le-at N O (add-at N I W) n (omega (arith, O .is, I .is, at-le N O W h)))
 
--- 1 / x, where r ≤ s * (1 - r): for r = 2 ^ -24 an s a little larger serves. |x - X| ≤ r |X| ≤ s (1 - r) |X| ≤ s |x|, and 1 / x - 1 / X is (X - x) / (x * X)
+-- 1 / x, where r ≤ s * (1 - r): for r = 2 ^ -24 an s a little larger serves. |x - X| ≤ r |X| ≤ s (1 - r) |X| ≤ s |x|,
+-- and 1 / x - 1 / X is (X - x) / (x * X)
 module _ (x X r s : Fraction) (f : ¬ (x ≈ᶠ natᶠ 0)) (g : ¬ (X ≈ᶠ natᶠ 0)) (p : natᶠ 0 ≤ᶠ s) (l : r ≤ᶠ s *ᶠ (natᶠ 1 -ᶠ r)) (h : Rel x X r (natᶠ 0)) where
   near : Near x X (r *ᶠ absᶠ X)
   near = near-weaken (h .near) (over (r *ᶠ absᶠ X ∷ natᶠ 0 ∷ []) (λ N n A O. le-at N (add-at N A O) A n (omega (arith, O .is))))
@@ -106,7 +108,8 @@ module _ (x X r s : Fraction) (f : ¬ (x ≈ᶠ natᶠ 0)) (g : ¬ (X ≈ᶠ nat
   size : s *ᶠ absᶠ x *ᶠ absᶠ (invᶠ x *ᶠ invᶠ X) ≈ᶠ s *ᶠ absᶠ (invᶠ X)
   size =
       trans≈ (mul-assoc s (absᶠ x) (absᶠ (invᶠ x *ᶠ invᶠ X)))
-      (mul-cong s (trans≈ (sym≈ (abs-mul x (invᶠ x *ᶠ invᶠ X))) (abs-cong (trans≈ (sym≈ (mul-assoc x (invᶠ x) (invᶠ X))) (trans≈ (cong-mul (one x f) (record { eq = refl })) (trans≈ (mul-comm (natᶠ 1) (invᶠ X)) (mul-one (invᶠ X))))))))
+      (mul-cong s (trans≈ (sym≈ (abs-mul x (invᶠ x *ᶠ invᶠ X)))
+      (abs-cong (trans≈ (sym≈ (mul-assoc x (invᶠ x) (invᶠ X))) (trans≈ (cong-mul (one x f) (record { eq = refl })) (trans≈ (mul-comm (natᶠ 1) (invᶠ X)) (mul-one (invᶠ X))))))))
 
   pub rel-inv : Rel (invᶠ x) (invᶠ X) s (natᶠ 0)
   rel-inv =

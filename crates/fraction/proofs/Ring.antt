@@ -1,6 +1,8 @@
--- POLYNOMIAL IDENTITIES OVER FRACTIONS, BY COMPUTATION. A polynomial in x₀, x₁, .. is a constant, or p + x₀ * q with p in x₁, .. alone. `ev` gives its value at a list of fractions.
--- `Rep ρ x` is a polynomial with the value x at ρ; `search rep` finds it for a sum, difference, product, negation or whole number, from those of its parts.
--- `ring ρ (search ..) (search ..) tt` proves x ≈ᶠ y where the two polynomials come to the same: `quartic`, below, shows the form. Assumes nothing.
+-- POLYNOMIAL IDENTITIES OVER FRACTIONS, BY COMPUTATION. A polynomial in x₀, x₁, .. is a constant, or p + x₀ * q with
+-- p in x₁, .. alone. `ev` gives its value at a list of fractions. `Rep ρ x` is a polynomial with the value x at ρ;
+-- `search rep` finds it for a sum, difference, product, negation or whole number, from those of its parts. `ring ρ
+-- (search ..) (search ..) tt` proves x ≈ᶠ y where the two polynomials come to the same: `quartic`, below, shows the
+-- form. Assumes nothing.
 use mathlib.Core.Path.{refl}
 use mathlib.Core.List.{List, [], _∷_}
 use mathlib.Core.Bool.{Bool, true, false, _&&_}

@@ -1,5 +1,6 @@
--- Exact fractions num / den of whole numbers, of any size, den above 0 (document 01, 'Exact winding': 'a fraction of two whole numbers'). Nothing is reduced: 1 / 2 and
--- 2 / 4 are two ways to write one number, and `≈ᶠ` says that two are the same. Order and equality are by cross multiplication. Definitions only.
+-- Exact fractions num / den of whole numbers, of any size, den above 0 (document 01, 'Exact winding': 'a fraction of
+-- two whole numbers'). Nothing is reduced: 1 / 2 and 2 / 4 are two ways to write one number, and `≈ᶠ` says that two
+-- are the same. Order and equality are by cross multiplication. Definitions only.
 use Prim.Native.Nat.{ℕ, _+_, _*_, _^_, _<_, max}
 use native.Mathlib.Nat.{mul-pos, zero-lt-suc, le-max-left}
 use mathlib.Core.Bool.{Bool, cond}

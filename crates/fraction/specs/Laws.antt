@@ -1,5 +1,5 @@
--- What is proved of fractions, so that a reader sees that the definitions are those of the rational numbers: `proofs/Laws.antt` has an element of each record.
--- Statements only.
+-- What is proved of fractions, so that a reader sees that the definitions are those of the rational numbers:
+-- `proofs/Laws.antt` has an element of each record. Statements only.
 use mathlib.Core.Logic.{_⊎_}
 use Prim.Native.Nat.{ℕ, _+_, _*_}
 use Rattle.fraction.specs.Fraction.{Fraction, _≤ᶠ_, _<ᶠ_, _≈ᶠ_, natᶠ, _+ᶠ_, _-ᶠ_, _*ᶠ_, _/ᶠ_, negᶠ, absᶠ, minᶠ, maxᶠ, clampᶠ, invᶠ, Near, Within}

@@ -1,6 +1,7 @@
--- Whole numbers of either sign and of any size (document 01: 'a fraction of two whole numbers'), as differences `plus - minus` of two naturals. Nothing is reduced:
--- 3 - 1 and 2 - 0 are two ways to write one number, and `≈ʷ` says that two are the same number. In this form order and equality are sums of naturals, which
--- `omega` reads. Definitions only.
+-- Whole numbers of either sign and of any size (document 01: 'a fraction of two whole numbers'), as differences `plus
+-- - minus` of two naturals. Nothing is reduced: 3 - 1 and 2 - 0 are two ways to write one number, and `≈ʷ` says that
+-- two are the same number. In this form order and equality are sums of naturals, which `omega` reads. Definitions
+-- only.
 use mathlib.Core.Path.{_≡_}
 use Prim.Native.Nat.{ℕ, suc, _+_, _-_, _*_, _≤_, _<_}
 use lib.IntN.{ℤ, pos, negsuc}

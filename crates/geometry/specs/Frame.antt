@@ -1,4 +1,5 @@
--- Frames and bounds, as geometry.rs computes them. `⊕ ⊖ ⊗ ⊘` are binary32's operations, and each rounds once. Definitions only.
+-- Frames and bounds, as geometry.rs computes them. `⊕ ⊖ ⊗ ⊘` are binary32's operations, and each rounds once.
+-- Definitions only.
 use mathlib.Core.Bool.{Bool, cond, _&&_}
 use mathlib.Core.List.{List, [], _∷_}
 use mathlib.Core.Bool.{true, false}

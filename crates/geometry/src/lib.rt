@@ -2,7 +2,8 @@
 // any floats, and its contract gives the result outright, by a definition of specs/Frame.antt.
 ghost use mathlib.Core.Path.{_≡_};
 ghost use mathlib.Core.List.{[], _∷_};
-ghost use Rattle.geometry.specs.Frame.{identityFrame, translationOf, productOf, quotientOf, collapsedOf, inverseOf, transformPointOf, noBounds, withPointOf, fromPointsOf};
+ghost use Rattle.geometry.specs.Frame.{identityFrame, translationOf, productOf, quotientOf, collapsedOf};
+ghost use Rattle.geometry.specs.Frame.{inverseOf, transformPointOf, noBounds, withPointOf, fromPointsOf};
 
 // A point. The Rust's `transform_point` answers a pair.
 pub struct Position {

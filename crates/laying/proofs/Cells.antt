@@ -92,14 +92,17 @@ drop-lent n l = let e : length l - n ≡ length (drop n l) = sym (length-drop n 
 -- ---- from where they meet
 
 module _ (x : Start) (line others : List ℕ) where
+  abbrev front : ℕ
+  front = length (take (x .own) line)
+
   abbrev after : List ℕ
   after = underOf (drop (x .own) line) (drop (x .other) others)
 
-  split : length (take (x .own) line) + length (drop (x .own) line) ≡ length line
+  split : front + length (drop (x .own) line) ≡ length line
   split = simp (length-take, length-drop) (omega arith)
 
   pub line-length : length (lineOf x line others) ≡ length line
-  line-length = length-append (replicate (length (take (x .own) line)) 0) after ∙ rw (length-replicate {A = ℕ} (length (take (x .own) line)) 0, under-length (drop (x .own) line) (drop (x .other) others)) split
+  line-length = length-append (replicate front 0) after ∙ rw (length-replicate {A = ℕ} front 0, under-length (drop (x .own) line) (drop (x .other) others)) split
 
   -- the line ends before it meets the others, or they end before that
   pub line-before : length line ≤ x .own → replicate (length line) 0 ≡ lineOf x line others
@@ -108,14 +111,14 @@ module _ (x : Start) (line others : List ℕ) where
 
   pub line-past : length others ≤ x .other → replicate (length line) 0 ≡ lineOf x line others
   line-past h =
-      ap (λ (n : ℕ). replicate n 0) (sym split) ∙ sym (replicate-append-replicate (length (take (x .own) line)) (length (drop (x .own) line)) 0)
+      ap (λ (n : ℕ). replicate n 0) (sym split) ∙ sym (replicate-append-replicate front (length (drop (x .own) line)) 0)
       ∙ sym (rw (drop-of-length-le others h, under-none (drop (x .own) line)) refl)
 
   -- a cell before the first that meets another, and one from there on
   pub line-left : (column : ℕ) → column < x .own → column < length line → getD (lineOf x line others) column 0 ≡ 0
   line-left column h g =
-      let b : column < length (take (x .own) line) = simp length-take (omega arith) in
-      List·getD-append (replicate (length (take (x .own) line)) 0) after 0 column (rw (length-replicate {A = ℕ} (length (take (x .own) line)) 0) b) ∙ getD-replicate (length (take (x .own) line)) column 0 0 b
+      let b : column < front = simp length-take (omega arith) in
+      List·getD-append (replicate front 0) after 0 column (rw (length-replicate {A = ℕ} front 0) b) ∙ getD-replicate front column 0 0 b
 
   module _ (i : ℕ) (h : x .own + i < length line) where
     within : i < length (drop (x .own) line)
@@ -123,9 +126,9 @@ module _ (x : Start) (line others : List ℕ) where
 
     in-after : getD (lineOf x line others) (x .own + i) 0 ≡ getD after i 0
     in-after =
-        let own : length (take (x .own) line) ≡ x .own = length-take-le (x .own) line (omega arith) in
-        let n : length (replicate {A = ℕ} (length (take (x .own) line)) 0) ≡ x .own = length-replicate (length (take (x .own) line)) 0 ∙ own in
-        ap (λ (k : ℕ). getD (lineOf x line others) (k + i) 0) (sym n) ∙ getD-append-add (replicate (length (take (x .own) line)) 0) after i 0
+        let own : front ≡ x .own = length-take-le (x .own) line (omega arith) in
+        let n : length (replicate {A = ℕ} front 0) ≡ x .own = length-replicate front 0 ∙ own in
+        ap (λ (k : ℕ). getD (lineOf x line others) (k + i) 0) (sym n) ∙ getD-append-add (replicate front 0) after i 0
 
     pub line-met : x .other + i < length others → getD (lineOf x line others) (x .own + i) 0 ≡ laidByte (getD line (x .own + i) 0) (getD others (x .other + i) 0)
     line-met g =

@@ -1,4 +1,5 @@
--- Offsets: where rows first meet. Cells: a line of cells under others. Laid: a laid mask as it is defined, cell by cell, also for the claim about lists of calls. Rows: the code's rows are those of the definition.
+-- Offsets: where rows first meet. Cells: a line of cells under others. Laid: a laid mask as it is defined, cell by
+-- cell, also for the claim about lists of calls. Rows: the code's rows are those of the definition.
 pub mod Offsets
 pub mod Cells
 pub mod Laid

@@ -4,25 +4,23 @@ use mathlib.Core.Bool.{Bool, true, false, cond, _&&_}
 use mathlib.Core.List.{List, _++_}
 use Prim.Native.Nat.{ℕ, zero, suc, _+_, _-_, _*_, _<_, _≤_}
 use native.Mathlib.Nat.{mul-le-mul-right, mul-comm, suc-mul}
-use native.Mathlib.Numerals.{add-one}
 use native.Mathlib.Omega.{arith}
 use native.Mathlib.Decide.{decLt}
 use borrow.Author.Tests.{lt-ltb, le-ltb}
 use lib.Dec.{ltb}
 use lib.IntN.{ℤ, pos, negsuc, _+ℤ_}
-use lib.ListN.{length, getD, take, drop, replicate, length-take, length-drop, length-replicate, getD-replicate, drop-of-length-le, take-append-drop}
+use lib.ListN.{length, getD, take, drop, replicate, length-take, length-drop, length-replicate, getD-replicate, drop-of-length-le}
 use lib.Seq.{drop-drop, ext-getD, getD-take, getD-drop}
-use Rattle.edge.proofs.StartRows.{and-no}
-use Rattle.coverage.specs.declared.Size.{Size}
-use Rattle.coverage.specs.Drawing.{rowsFrom}
-use Rattle.coverage.specs.Resolving.{rowsChanged}
-use Rattle.coverage.proofs.Rows.{rows-step, row-turn, row-length as replaced-length}
+use Rattle.cells.specs.declared.Size.{Size}
+use Rattle.cells.specs.Cells.{cellsOf, byteAt}
+use Rattle.cells.specs.Rows.{rowsFrom, rowsChanged}
+use Rattle.cells.proofs.Rows.{row-room}
 use Rattle.laying.specs.declared.Offset.{Offset}
 use Rattle.laying.specs.declared.Start.{Start}
-use Rattle.laying.specs.Laying.{laidByte, metAt, laidLine, layingOf}
+use Rattle.laying.specs.Laying.{Laying, laidByte, metAt, laidCell, laidRow, layingOf}
 use Rattle.laying.specs.Lines.{startOf, lineOf, rowMet, rowOf}
 use Rattle.laying.proofs.Cells.{line-length, line-left, line-met, line-beyond}
-use Rattle.laying.proofs.Laid.{met, laid-line-length, laid-line-get}
+use Rattle.laying.proofs.Laid.{row-length as laid-length, row-get as laid-get}
 
 -- ---- along one axis
 
@@ -40,17 +38,14 @@ above size other cell x (pos m) n h = absurd (omega arith)
 above size other cell (pos k) (negsuc m) n h = rw (lt-ltb n (suc m) h) refl
 above size other cell (negsuc k) (negsuc m) n h = refl
 
+and-no : (b : Bool) → (b && false) ≡ false
+and-no true = refl
+and-no false = refl
+
 -- past the last row there is none
 below : (size : Size) (other : List ℕ) (cell : ℕ) (x : ℤ) (n : ℕ) → size .height ≤ n → metAt size other cell x (pos n) ≡ 0
 below size other cell (pos k) n h = rw (le-ltb n (size .height) h, and-no (ltb k (size .width))) refl
 below size other cell (negsuc k) n h = refl
-
-pub row-room : (k width height n : ℕ) → k < height → width * height ≤ n → k * width + width ≤ n
-row-room k width height n h g =
-    let a : suc k * width ≤ height * width = mul-le-mul-right width h in
-    let b : suc k * width ≡ k * width + width = suc-mul k width in
-    let c : height * width ≡ width * height = mul-comm height width in
-    omega arith
 
 -- ---- a row, by where it stands to the other mask's
 
@@ -66,7 +61,7 @@ module _ (x y : Start) (size : Size) (other : List ℕ) (row : ℕ) (line : List
 
 -- ---- a row, cell by cell
 
-module _ (size : Size) (other : List ℕ) (room : size .width * size .height ≤ length other) (offset : Offset) (row : ℕ) (line : List ℕ) where
+module _ (size : Size) (other : List ℕ) (room : cellsOf size ≤ length other) (offset : Offset) (row : ℕ) (line : List ℕ) where
   abbrev x : Start
   x = startOf (offset .x)
 
@@ -116,8 +111,10 @@ module _ (size : Size) (other : List ℕ) (room : size .width * size .height ≤
       inner : y .own ≤ row → Dec (k < size .height) → getD (cond (ltb k (size .height)) (lineOf x line others) (replicate (length line) 0)) column 0 ≡ at column
       inner past (yes low) = rw (lt-ltb k (size .height) low) (line-cell low past column h)
       inner past (no high) =
+          let cell = getD line column 0 in
+          let x = pos column +ℤ offset .x in
           rw (le-ltb k (size .height) (omega arith)) (zero-get column h)
-          ∙ sym (ap (metAt size other (getD line column 0) (pos column +ℤ offset .x)) (from-start (offset .y) row past) ∙ below size other (getD line column 0) (pos column +ℤ offset .x) k (omega arith))
+          ∙ sym (ap (metAt size other cell x) (from-start (offset .y) row past) ∙ below size other cell x k (omega arith))
 
       go : Dec (row < y .own) → getD (rowOf x y size other row line) column 0 ≡ at column
       go (yes g) = rw (lt-ltb row (y .own) g) (zero-get column h) ∙ sym (above size other (getD line column 0) (pos column +ℤ offset .x) (offset .y) row g)
@@ -133,70 +130,47 @@ module _ (size : Size) (other : List ℕ) (room : size .width * size .height ≤
 
 -- ---- all rows
 
-module _ (size : Size) (mask : List ℕ) (otherSize : Size) (other : List ℕ) (room : otherSize .width * otherSize .height ≤ length other) (offset : Offset) where
-  abbrev change : ℕ → List ℕ → List ℕ
-  change = rowOf (startOf (offset .x)) (startOf (offset .y)) otherSize other
+module _ (l : Laying) (mask other : List ℕ) (room : cellsOf (l .otherSize) ≤ length other) where
+  abbrev w : ℕ
+  w = l .size .width
+
+  abbrev pub change : ℕ → List ℕ → List ℕ
+  change = rowOf (startOf (l .offset .x)) (startOf (l .offset .y)) (l .otherSize) other
 
   abbrev line : ℕ → List ℕ
-  line row = take (size .width) (drop (row * size .width) mask)
+  line row = take w (drop (row * w) mask)
 
-  row-is : (row : ℕ) → (row + 1) * size .width ≤ length mask → change row (line row) ≡ laidLine size mask otherSize other offset row (size .width) 0
+  line-wide : (row : ℕ) → (row + 1) * w ≤ length mask → length (line row) ≡ w
+  line-wide row h = let s = suc-mul row w in simp (length-take, length-drop) (omega arith)
+
+  cell-is : (row i : ℕ) → (row + 1) * w ≤ length mask → i < w → getD (change row (line row)) i 0 ≡ getD (laidRow l mask other row) i 0
+  cell-is row i h b =
+      let wide = line-wide row h in
+      let at : getD (line row) i 0 ≡ byteAt (l .size) mask i row = getD-take w (drop (row * w) mask) i 0 b ∙ getD-drop (row * w) mask i 0 in
+      row-cell (l .otherSize) other room (l .offset) row (line row) i (omega arith)
+      ∙ ap (λ (cell : ℕ). laidCell l other cell i row) at ∙ sym (laid-get l mask other row i b)
+
+  row-is : (row : ℕ) → (row + 1) * w ≤ length mask → change row (line row) ≡ laidRow l mask other row
   row-is row h =
-      let s = suc-mul row (size .width) in
-      let wide : length (line row) ≡ size .width = simp (length-take, length-drop) (omega arith) in
-      let long : length (change row (line row)) ≡ size .width = row-length otherSize other room offset row (line row) ∙ wide in
-      ext-getD 0 (change row (line row)) (laidLine size mask otherSize other offset row (size .width) 0) (long ∙ sym (laid-line-length size mask otherSize other offset row (size .width) 0))
-      (λ i g.
-      let b : i < size .width = omega arith in
-      let z : 0 + i ≡ i = omega arith in
-      row-cell otherSize other room offset row (line row) i (omega arith)
-      ∙ rw (getD-take (size .width) (drop (row * size .width) mask) i 0 b, getD-drop (row * size .width) mask i 0) refl
-      ∙ sym (laid-line-get size mask otherSize other offset row (size .width) 0 i b ∙ ap (λ (c : ℕ). met size mask otherSize other offset c row) z))
+      let long : length (change row (line row)) ≡ w = row-length (l .otherSize) other room (l .offset) row (line row) ∙ line-wide row h in
+      ext-getD 0 (change row (line row)) (laidRow l mask other row) (long ∙ sym (laid-length l mask other row)) (λ i g. cell-is row i h (omega arith))
 
-  abbrev rows : ℕ → List ℕ
-  rows row = laidLine size mask otherSize other offset row (size .width) 0
-
-  rows-are : (n row : ℕ) → (row + n) * size .width ≡ length mask → rowsChanged change (size .width) n row (drop (row * size .width) mask) ≡ rowsFrom rows n row
+  rows-are : (n row : ℕ) → (row + n) * w ≡ length mask → rowsChanged change w n row (drop (row * w) mask) ≡ rowsFrom (laidRow l mask other) n row
   unfolding rowsChanged rowsFrom
-  rows-are zero row h = let e : row + 0 ≡ row = omega arith in let g : length mask ≤ row * size .width = omega (arith, rw e at h) in drop-of-length-le mask g
+  rows-are zero row h =
+      let e : row + 0 ≡ row = omega arith in
+      let g : length mask ≤ row * w = omega (arith, rw e at h) in
+      drop-of-length-le mask g
   rows-are (suc n) row h =
       let e : row + suc n ≡ suc row + n = omega arith in
+      let m : (row + 1) * w ≤ (suc row + n) * w = mul-le-mul-right w (omega arith) in
+      let s : row * w + w ≡ suc row * w = sym (suc-mul row w) in
+      let next = drop-drop w (row * w) mask ∙ ap (λ (i : ℕ). drop i mask) s in
       let g = rw e at h in
-      let m : (row + 1) * size .width ≤ (suc row + n) * size .width = mul-le-mul-right (size .width) (omega arith) in
-      let s : row * size .width + size .width ≡ suc row * size .width = sym (suc-mul row (size .width)) in
-      ap₂ (λ (a b : List ℕ). a ++ b) (row-is row (omega arith)) (ap (rowsChanged change (size .width) n (suc row)) (drop-drop (size .width) (row * size .width) mask ∙ ap (λ (i : ℕ). drop i mask) s) ∙ rows-are n (suc row) g)
+      ap₂ (λ (a b : List ℕ). a ++ b) (row-is row (omega arith)) (ap (rowsChanged change w n (suc row)) next ∙ rows-are n (suc row) g)
 
-  pub all-rows : size .width * size .height ≡ length mask → rowsChanged change (size .width) (size .height) 0 mask ≡ layingOf size mask otherSize other offset
+  pub all-rows : cellsOf (l .size) ≡ length mask → rowsChanged change w (l .size .height) 0 mask ≡ layingOf l mask other
   all-rows h =
-      let z : 0 * size .width ≡ 0 = omega arith in
-      let e : (0 + size .height) * size .width ≡ length mask = omega arith in
-      ap (λ (i : ℕ). rowsChanged change (size .width) (size .height) 0 (drop i mask)) (sym z) ∙ rows-are (size .height) 0 e
-
--- ---- row by row: the first rows are changed, and what is left to do is done as before
-
-abbrev pub AtRow : (ℕ → List ℕ → List ℕ) → ℕ → ℕ → List ℕ → List ℕ → ℕ → ℕ → Type 0
-AtRow change width height mask₀ mask from row =
-    (row ≤ height) × (from + (height - row) * width ≡ length mask) × (length mask ≡ length mask₀)
-    × (rowsChanged change width height 0 mask₀ ≡ take from mask ++ rowsChanged change width (height - row) row (drop from mask))
-
-module _ (change : ℕ → List ℕ → List ℕ) (width height : ℕ) (mask₀ mask : List ℕ) (from row : ℕ) (s : AtRow change width height mask₀ mask from row) where
-  pub rows-done : height ≤ row → mask ≡ rowsChanged change width height 0 mask₀
-  unfolding rowsChanged
-  rows-done h = let e : height - row ≡ 0 = omega arith in sym (s .3 ∙ rw e (take-append-drop from mask))
-
-  pub rows-turn : row < height → (line : List ℕ) → length line ≡ length (take (from + width - from) (drop from mask)) → line ≡ change row (take (from + width - from) (drop from mask))
-      → AtRow change width height mask₀ (take from mask ++ (line ++ drop (from + width - from) (drop from mask))) (from + width) (row + 1)
-  rows-turn h line kept is =
-      let step = rows-step row height width h in
-      let room : from + width ≤ length mask = omega (arith, s .1) in
-      let long : length line ≡ width = kept ∙ simp (length-take, length-drop) (omega arith) in
-      let len = replaced-length from width mask line room long in
-      let left : from + width + (height - (row + 1)) * width ≡ length mask = omega (arith, s .1) in
-      let e : height - row ≡ suc (height - (row + 1)) = omega arith in (
-        omega arith,
-        left ∙ sym len,
-        len ∙ s .2,
-        s .3 ∙ ap (λ (n : ℕ). take from mask ++ rowsChanged change width n row (drop from mask)) e
-            ∙ row-turn from width mask line room long change (height - (row + 1)) row is
-            ∙ ap (λ (r : ℕ). take (from + width) (take from mask ++ (line ++ drop (from + width - from) (drop from mask))) ++ rowsChanged change width (height - (row + 1)) r (drop (from + width) (take from mask ++ (line ++ drop (from + width - from) (drop from mask))))) (sym (add-one row)),
-      )
+      let z : 0 * w ≡ 0 = omega arith in
+      let e : (0 + l .size .height) * w ≡ length mask = omega (arith, mul-comm (l .size .height) w) in
+      ap (λ (i : ℕ). rowsChanged change w (l .size .height) 0 (drop i mask)) (sym z) ∙ rows-are (l .size .height) 0 e

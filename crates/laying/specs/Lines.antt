@@ -5,7 +5,7 @@ use mathlib.Core.List.{List, [], _∷_, _++_}
 use lib.Dec.{ltb}
 use lib.IntN.{ℤ, pos, negsuc}
 use lib.ListN.{length, take, drop, replicate}
-use Rattle.coverage.specs.declared.Size.{Size}
+use Rattle.cells.specs.declared.Size.{Size}
 use Rattle.laying.specs.declared.Start.{Start}
 use Rattle.laying.specs.Laying.{laidByte}
 

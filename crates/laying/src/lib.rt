@@ -1,9 +1,10 @@
 // One mask laid on another: `intersect` of coverage.rs, below its refusals.
-use coverage::Size;
+use cells::Size;
 ghost use mathlib.Core.Path.{_≡_};
-ghost use Prim.Native.Nat.{_*_, _≤_};
+ghost use Prim.Native.Nat.{_≤_};
 ghost use lib.ListN.{length};
-ghost use Rattle.laying.specs.Laying.{laidByte, layingOf};
+ghost use Rattle.cells.specs.Cells.{cellsOf, SizeAllowed};
+ghost use Rattle.laying.specs.Laying.{laying, laidByte, layingOf};
 ghost use Rattle.laying.specs.Lines.{startOf, underOf, lineOf, rowOf};
 
 // Where a mask's corner lies in the other: its cell (column, row) meets (column + x, row + y).
@@ -61,7 +62,7 @@ fn lay_front(cells: &mut [u8], others: &[u8])
         return;
     }
     lay_cells(&mut cells[..n], others);
-    coverage::clear_bytes(&mut cells[n..]);
+    cells::clear_bytes(&mut cells[n..]);
 }
 
 // Lays a row of the other mask on a line, from where they meet.
@@ -71,30 +72,30 @@ fn lay_line(line: &mut [u8], others: &[u8], x: Start)
     let own = x.own;
     let from = x.other;
     if line.len() <= own {
-        coverage::clear_bytes(line);
+        cells::clear_bytes(line);
         return;
     }
     if others.len() <= from {
-        coverage::clear_bytes(line);
+        cells::clear_bytes(line);
         return;
     }
-    coverage::clear_bytes(&mut line[..own]);
+    cells::clear_bytes(&mut line[..own]);
     lay_front(&mut line[own..], &others[from..]);
 }
 
 // Lays the other mask's row that a row meets on it, and clears a row that meets none.
 fn lay_row(line: &mut [u8], other: &[u8], size: Size, row: usize, x: Start, y: Start)
-    requires { ⌜ (row ≤ 4096) × (size .width ≤ 4096) × (size .height ≤ 4096) × (size .width * size .height ≤ length (now other)) ⌝ }
-    requires { ⌜ y .other ≤ 2147483648 ⌝ }
+    requires { ⌜ SizeAllowed size × (cellsOf size ≤ length (now other)) ⌝ }
+    requires { ⌜ (row ≤ 4096) × (y .other ≤ 2147483648) ⌝ }
     ensures { λ _. ⌜ now (line .exit) ≡ rowOf x y size (now (other .entry)) row (now (line .entry)) ⌝ }
 {
     if row < y.own {
-        coverage::clear_bytes(line);
+        cells::clear_bytes(line);
         return;
     }
     let met = row - y.own + y.other;
     if size.height <= met {
-        coverage::clear_bytes(line);
+        cells::clear_bytes(line);
         return;
     }
     let from = met * size.width;
@@ -104,9 +105,9 @@ fn lay_row(line: &mut [u8], other: &[u8], size: Size, row: usize, x: Start, y: S
 
 // Multiplies a mask by the other where they overlap, and clears it elsewhere.
 pub fn lay(mask: &mut [u8], size: Size, other: &[u8], other_size: Size, offset: Offset)
-    requires { ⌜ (size .width ≤ 4096) × (size .height ≤ 4096) × (size .width * size .height ≡ length (now mask)) ⌝ }
-    requires { ⌜ («other_size» .width ≤ 4096) × («other_size» .height ≤ 4096) × («other_size» .width * «other_size» .height ≤ length (now other)) ⌝ }
-    ensures { λ _. ⌜ now (mask .exit) ≡ layingOf size (now (mask .entry)) «other_size» (now (other .entry)) offset ⌝ }
+    requires { ⌜ SizeAllowed size × (cellsOf size ≡ length (now mask)) ⌝ }
+    requires { ⌜ SizeAllowed «other_size» × (cellsOf «other_size» ≤ length (now other)) ⌝ }
+    ensures { λ _. ⌜ now (mask .exit) ≡ layingOf (laying size «other_size» offset) (now (mask .entry)) (now (other .entry)) ⌝ }
 {
     let x = first_met(offset.x);
     let y = first_met(offset.y);

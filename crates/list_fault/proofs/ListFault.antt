@@ -7,10 +7,11 @@ use native.Mathlib.Omega.{arith}
 use lib.IntN.{ℤ, negsuc}
 use Rattle.fault.specs.declared.Fault.{Fault}
 use Rattle.fault.specs.declared.Fault.the-variants.{ListEndsEarly, CountOutOfRange, CoordinateOutOfRange}
-use Rattle.words.specs.Words.{Group, Read, ok, fault, andThen, readCount, beyond, readCoordinate, readPoint, readPoints, readContour, readContours, readGroup, readGroups, readWords}
-use Rattle.words.proofs.RoundTrip.{reads-what-is-written}
+use Rattle.word_list.specs.Words.{Group, Read, ok, fault, andThen, readCount, beyond, readCoordinate, readPoint, readPoints, readContour, readContours, readGroup, readGroups, readWords}
+use Rattle.word_list.proofs.RoundTrip.{reads-what-is-written}
 use Rattle.list_fault.specs.ListFault.{Writing, Begins, WrongWord, MinusOneBegins, FaultOf, ends-early, at-count, at-coordinate, ListFault, OneOfEach}
-use Rattle.list_fault.proofs.Machine.{State, atRule, atContourCount, atPointCount, atX, atY, wrong, step, run, run-append, stays, verdict, refused, Going, Takes, takes, Where, where-step, where-run, finish, finishes}
+use Rattle.list_fault.proofs.Machine.{State, atRule, atContourCount, atPointCount, atX, atY, wrong, step, run, run-append}
+use Rattle.list_fault.proofs.Machine.{stays, verdict, refused, Going, Takes, takes, Where, where-step, where-run, finish, finishes}
 use Rattle.list_fault.proofs.Agrees.{ran, ok-ran, fault-ran, ran-fault}
 
 -- ---- a list is a writing where the steps come to a rule word, and begins one where they go on

@@ -1,13 +1,13 @@
--- What is at fault in a word list (document 01, 'What a call hands back': 5, 6 and 7), said of the lists that are written (words/specs/Writer.antt) and without
--- the reader's steps. `ListFault` is proved in proofs/ListFault.antt.
+-- What is at fault in a word list (document 01, 'What a call hands back': 5, 6 and 7), said of the lists that are
+-- written (word_list/specs/Writer.antt) and without the reader's steps. `ListFault` is proved in proofs/ListFault.antt.
 use mathlib.Core.Path.{_≡_}
 use mathlib.Core.Logic.{_⊎_}
 use mathlib.Core.List.{List, [], _∷_, _++_}
 use lib.IntN.{ℤ, pos, negsuc}
 use Rattle.fault.specs.declared.Fault.{Fault}
 use Rattle.fault.specs.declared.Fault.the-variants.{ListEndsEarly, CountOutOfRange, CoordinateOutOfRange}
-use Rattle.words.specs.Words.{Group, fault, readWords}
-use Rattle.words.specs.Writer.{wordsOf, Allowed}
+use Rattle.word_list.specs.Words.{Group, fault, readWords}
+use Rattle.word_list.specs.Writer.{wordsOf, Allowed}
 
 -- a list that is written: the words of groups that are allowed
 abbrev pub Writing : List ℤ → Type 0
@@ -26,7 +26,8 @@ pub record WrongWord (ws : List ℤ) : Type 0 where
   pub begins : Begins front
   pub wrong : ¬ Begins (front ++ (word ∷ []))
 
--- Where a count should stand -1 is no word of a writing, where a coordinate should it is one. (A rule word is never wrong.)
+-- Where a count should stand -1 is no word of a writing, where a coordinate should it is one. (A rule word is never
+-- wrong.)
 abbrev pub MinusOneBegins : {ws : List ℤ} → WrongWord ws → Type 0
 MinusOneBegins u = Begins (u .front ++ (negsuc 0 ∷ []))
 

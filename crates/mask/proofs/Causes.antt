@@ -1,71 +1,94 @@
--- Why a drawing is refused (specs/Laws.antt, RefusedExactlyWhen and ListFaults). Assumes nothing.
-use mathlib.Core.Path.{_≡_, refl, sym, ap, _∙_, subst}
-use mathlib.Core.Bool.{Bool, true, false, cond, _||_}
+-- When a drawing is done, and why it is refused (specs/Laws.antt, DoneExactlyWhen and RefusedExactlyWhen). Assumes
+-- nothing.
+use mathlib.Core.Path.{_≡_, refl, ap, _∙_}
+use mathlib.Core.Bool.{Bool, true, false, _||_}
 use mathlib.Core.Logic.{_⊎_, inl, inr}
 use mathlib.Core.List.{List, []}
 use Prim.Native.Nat.{ℕ, _≤_, _<_}
 use lib.Dec.{ltb}
-use lib.IntN.{ℤ}
-use borrow.Author.Tests.{ltb-true, ltb-false, lt-ltb}
+use borrow.Author.Tests.{ltb-true, ltb-false, lt-ltb, le-ltb}
 use Rattle.fault.specs.declared.Fault.{Fault}
-use Rattle.fault.specs.declared.Fault.the-variants.{MaskTooLarge, BufferTooShort, ListEndsEarly, CountOutOfRange, CoordinateOutOfRange}
-use Rattle.row.proofs.Clip.{or-true}
-use Rattle.words.specs.Words.{Group, Read, ok, fault, readWords}
-use Rattle.words.proofs.RoundTrip.{reads-what-is-written}
-use Rattle.list_fault.specs.ListFault.{FaultOf, ends-early, at-count, at-coordinate}
+use Rattle.fault.specs.declared.Fault.the-variants.{MaskTooLarge, BufferTooShort}
+use Rattle.word_list.specs.Words.{Group, pointsIn, Read, ok, fault, readWords}
+use Rattle.word_list.specs.Writer.{wordsOf, Allowed}
+use Rattle.word_list.proofs.RoundTrip.{reads-what-is-written}
 use Rattle.list_fault.proofs.ListFault.{list-fault as list-fault-law}
-use Rattle.coverage.specs.declared.Size.{Size}
-use Rattle.mask.specs.Calls.{cellsOf, tooLarge, floatsNeeded, countersNeeded, Lent, listAnswer, drawAnswer}
-use Rattle.mask.specs.Laws.{SizeAllowed, ScratchShort, FirstCause, too-large, mask-short, list-fault, scratch-short, RefusedExactlyWhen, ListFaults}
+use Rattle.cells.specs.Cells.{cellsOf, tooLarge, SizeAllowed}
+use Rattle.cells.proofs.Sizes.{or-true, size-allowed, size-large, allowed-small, large-test}
+use Rattle.coverage.specs.Scratch.{floatsNeeded, countersNeeded}
+use Rattle.mask.specs.Calls.{Lent, Drawing, drawAnswer}
+use Rattle.mask.specs.Laws.{CanDraw, FirstCause, too-large, mask-short, list-fault, scratch-short, DoneExactlyWhen, RefusedExactlyWhen}
 use Rattle.mask.specs.declared.Outcome.the-variants.{Done, Refused}
-use Rattle.mask.proofs.Answers.{same-fault, not-done, size-small, size-large, large, allowed}
-use Rattle.mask.proofs.Answers as answer
+use Rattle.mask.proofs.Decided.{Decided, done-only, refused-only}
 
-module _ (size : Size) (words : List ℤ) (lent : Lent) (f : Fault) where
-  abbrev Caused : Fault → Type 0
-  Caused = FirstCause size words lent
-
-  scratch-only : SizeAllowed size → cellsOf size ≤ lent .mask → (r : Read (List Group)) → readWords words ≡ r → listAnswer size lent r ≡ Refused f → Caused f
-  scratch-only s m (fault g) q e = list-fault s m (list-fault-law .only words f (q ∙ ap fault (sym (same-fault e))))
-  scratch-only s m (ok gs rest) q e = go (ltb (lent .floats) (floatsNeeded size gs)) (ltb (lent .counters) (countersNeeded size)) refl refl e
-    where
-      short : ScratchShort size gs lent → Caused BufferTooShort
-      short h = let w = reads-what-is-written .forth words gs rest q in scratch-short s m gs (w .2) (w .1) h
-
-      go : (a b : Bool) → ltb (lent .floats) (floatsNeeded size gs) ≡ a → ltb (lent .counters) (countersNeeded size) ≡ b → cond (a || b) (Refused BufferTooShort) Done ≡ Refused f → Caused f
-      go true b h k e = subst Caused (sym (same-fault e)) (short (inl (ltb-true (lent .floats) (floatsNeeded size gs) h)))
-      go false true h k e = subst Caused (sym (same-fault e)) (short (inr (ltb-true (lent .counters) (countersNeeded size) k)))
-      go false false h k e = absurd (not-done e)
-
-  refused-only : drawAnswer size words lent ≡ Refused f → Caused f
-  refused-only = go (tooLarge size) (ltb (lent .mask) (cellsOf size)) refl refl
-    where
-      go : (a c : Bool) → tooLarge size ≡ a → ltb (lent .mask) (cellsOf size) ≡ c
-          → cond a (Refused MaskTooLarge) (cond c (Refused BufferTooShort) (listAnswer size lent (readWords words))) ≡ Refused f → Caused f
-      go true c h l e = subst Caused (sym (same-fault e)) (too-large (size-large size h))
-      go false true h l e = subst Caused (sym (same-fault e)) (mask-short (size-small size h) (ltb-true (lent .mask) (cellsOf size) l))
-      go false false h l e = scratch-only (size-small size h) (ltb-false (lent .mask) (cellsOf size) l) (readWords words) refl e
-
-short-true : (a b c d : ℕ) → (a < b) ⊎ (c < d) → (ltb a b || ltb c d) ≡ true
+pub short-true : (a b c d : ℕ) → (a < b) ⊎ (c < d) → (ltb a b || ltb c d) ≡ true
 short-true a b c d (inl h) = rw (lt-ltb a b h) refl
 short-true a b c d (inr h) = rw (lt-ltb c d h) (or-true (ltb a b))
 
-refused-always : (size : Size) (words : List ℤ) (lent : Lent) (f : Fault) → FirstCause size words lent f → drawAnswer size words lent ≡ Refused f
-refused-always size words lent f (too-large h) = sym (answer.too-large size words lent (large size h))
-refused-always size words lent f (mask-short s m) = sym (answer.mask-short size words lent (allowed size s) m)
-refused-always size words lent f (list-fault s m h) = sym (answer.then-list size words lent (allowed size s) m) ∙ rw (list-fault-law .always words f h) refl
-refused-always size words lent f (scratch-short s m gs a w h) =
-    let r : readWords words ≡ ok gs [] = ap readWords w ∙ reads-what-is-written .back gs a in
-    sym (answer.then-list size words lent (allowed size s) m) ∙ rw (r, short-true (lent .floats) (floatsNeeded size gs) (lent .counters) (countersNeeded size) h) refl
+module _ (d : Drawing) (lent : Lent) where
+  -- ---- one of the two is so
+
+  abbrev Told : Type 0
+  Told = Decided (CanDraw d lent) (FirstCause d lent)
+
+  by-scratch : SizeAllowed (d .size) → cellsOf (d .size) ≤ lent .mask → (gs : List Group) → Allowed gs → d .words ≡ wordsOf gs → Told
+  by-scratch s m gs a w = go (ltb (d .floats) floats) (ltb (d .counters) counters) refl refl
+    where
+      floats : ℕ
+      floats = floatsNeeded (d .size) (pointsIn gs)
+
+      counters : ℕ
+      counters = countersNeeded (d .size)
+
+      go : (p q : Bool) → ltb (d .floats) floats ≡ p → ltb (d .counters) counters ≡ q → Told
+      go true q h k = inr (BufferTooShort, scratch-short s m gs a w (inl (ltb-true (d .floats) floats h)))
+      go false true h k = inr (BufferTooShort, scratch-short s m gs a w (inr (ltb-true (d .counters) counters k)))
+      go false false h k = inl (record {
+        size-allowed = s;
+        cells = m;
+        groups = gs;
+        written = w;
+        allowed = a;
+        floats = ltb-false (d .floats) floats h;
+        counters = ltb-false (d .counters) counters k;
+      })
+
+  by-list : SizeAllowed (d .size) → cellsOf (d .size) ≤ lent .mask → (r : Read (List Group)) → readWords (d .words) ≡ r → Told
+  by-list s m (fault f) q = inr (f, list-fault s m (list-fault-law .only (d .words) f q))
+  by-list s m (ok gs rest) q = let w = reads-what-is-written .forth (d .words) gs rest q in by-scratch s m gs (w .2) (w .1)
+
+  pub decided : Told
+  decided = go (tooLarge (d .size)) (ltb (lent .mask) (cellsOf (d .size))) refl refl
+    where
+      go : (p q : Bool) → tooLarge (d .size) ≡ p → ltb (lent .mask) (cellsOf (d .size)) ≡ q → Told
+      go true q h k = inr (MaskTooLarge, too-large (size-large (d .size) h))
+      go false true h k = inr (BufferTooShort, mask-short (size-allowed (d .size) h) (ltb-true (lent .mask) (cellsOf (d .size)) k))
+      go false false h k = by-list (size-allowed (d .size) h) (ltb-false (lent .mask) (cellsOf (d .size)) k) (readWords (d .words)) refl
+
+  -- ---- and tells the answer
+
+  pub can-draw : CanDraw d lent → drawAnswer d lent ≡ Done
+  can-draw c =
+      let r : readWords (d .words) ≡ ok (c .groups) [] = ap readWords (c .written) ∙ reads-what-is-written .back (c .groups) (c .allowed) in
+      rw (
+        allowed-small (d .size) (c .size-allowed),
+        le-ltb (lent .mask) (cellsOf (d .size)) (c .cells),
+        r,
+        le-ltb (d .floats) (floatsNeeded (d .size) (pointsIn (c .groups))) (c .floats),
+        le-ltb (d .counters) (countersNeeded (d .size)) (c .counters),
+      ) refl
+
+  pub cannot-draw : (f : Fault) → FirstCause d lent f → drawAnswer d lent ≡ Refused f
+  cannot-draw f (too-large h) = rw (large-test (d .size) h) refl
+  cannot-draw f (mask-short s m) = rw (allowed-small (d .size) s, lt-ltb (lent .mask) (cellsOf (d .size)) m) refl
+  cannot-draw f (list-fault s m h) = rw (allowed-small (d .size) s, le-ltb (lent .mask) (cellsOf (d .size)) m, list-fault-law .always (d .words) f h) refl
+  cannot-draw f (scratch-short s m gs a w h) =
+      let r : readWords (d .words) ≡ ok gs [] = ap readWords w ∙ reads-what-is-written .back gs a in
+      let short = short-true (d .floats) (floatsNeeded (d .size) (pointsIn gs)) (d .counters) (countersNeeded (d .size)) h in
+      rw (allowed-small (d .size) s, le-ltb (lent .mask) (cellsOf (d .size)) m, r, short) refl
+
+pub done-exactly-when : DoneExactlyWhen
+done-exactly-when = record { only = λ d lent. done-only (can-draw d lent) (cannot-draw d lent) (decided d lent); always = can-draw }
 
 pub refused-exactly-when : RefusedExactlyWhen
-refused-exactly-when = record { only = refused-only; always = refused-always }
-
--- ---- the faults of a list
-pub list-faults : ListFaults
-list-faults words f e = go (list-fault-law .only words f e)
-  where
-    go : {g : Fault} → FaultOf words g → (g ≡ ListEndsEarly) ⊎ ((g ≡ CountOutOfRange) ⊎ (g ≡ CoordinateOutOfRange))
-    go (ends-early h n) = inl refl
-    go (at-count u n) = inr (inl refl)
-    go (at-coordinate u h) = inr (inr refl)
+refused-exactly-when = record { only = λ d lent. refused-only (can-draw d lent) (cannot-draw d lent) (decided d lent); always = cannot-draw }

@@ -1,10 +1,13 @@
--- OneGroup: one group of a list. AllGroups: one after another. Cleared: lent buffers, cleared. Answers: cause by cause.
--- Laws: drawings as a whole. Causes, LayCauses: why a drawing and a laying-on are refused. Numbers: document 01's number of each.
-pub mod OneGroup
-pub mod AllGroups
-pub mod Cleared
-pub mod Answers
-pub mod Laws
+-- Decided: an answer that is done where it can be, and refused for each cause, is so only then. Causes: a drawing.
+-- LayCauses: a laying-on. Numbers: document 01's number of each call. Laws: a list's faults, and the cells after a
+-- drawing. Cleared, OneGroup, AllGroups: the steps of a drawing. Scratch: a list without a fault, and the scratch that
+-- it needs.
+pub mod Decided
 pub mod Causes
 pub mod LayCauses
 pub mod Numbers
+pub mod Laws
+pub mod Scratch
+pub mod Cleared
+pub mod OneGroup
+pub mod AllGroups

@@ -1,31 +1,28 @@
 // The public calls on masks.
-use coverage::Size;
+use cells::Size;
 use fault::Fault;
 use laying::Offset;
 use words::Counted;
 use words::Scan;
 ghost use mathlib.Core.Path.{_≡_};
-ghost use mathlib.Core.List.{[]};
-ghost use Prim.Native.Nat.{_≤_, _<_};
+ghost use Prim.Native.Nat.{_≤_};
 ghost use lib.ListN.{length, drop, replicate};
 ghost use Rattle.float.specs.Ops.{f0};
-ghost use Rattle.words.specs.Words.{readGroup, readWords, readOr, groupsOf, pointsIn};
-ghost use Rattle.words.specs.Scan.{groupPoints, Fine, endOf, noGroup};
+ghost use Rattle.word_list.specs.Words.{readGroup, groupsOf};
+ghost use Rattle.words.specs.Scan.{endOf};
+ghost use Rattle.cells.specs.Cells.{cellsOf, SizeAllowed};
 ghost use Rattle.coverage.specs.Drawing.{groupRow, drawingOf};
-ghost use Rattle.coverage.specs.Resolving.{Room, Clean, rowsAdded};
-ghost use Rattle.mask.specs.Calls.{lentTo, outcomeNumber, cellsOf, tooLarge, listAnswer, drawAnswer, maskAfterDrawing, floatsAfterDrawing, countersAfterDrawing, layAnswer, maskAfterLaying};
+ghost use Rattle.coverage.specs.Scratch.{Room, Clean};
+ghost use Rattle.coverage.specs.Resolving.{rowsAdded};
+ghost use Rattle.laying.specs.Laying.{laying};
+ghost use Rattle.mask.specs.Calls.{drawing, lent, outcomeNumber, drawAnswer, maskAfterDrawing, floatsAfterDrawing, countersAfterDrawing, layAnswer, maskAfterLaying};
 ghost use Rattle.mask.specs.Laws.{DrawNumber, LayNumber};
+ghost use Rattle.mask.specs.Steps.{ListCounted, GroupFine, groupAt};
 
 // What a call answers: it is done, or turned away for a cause of document 01's table.
 pub enum Outcome {
     Done,
     Refused(Fault),
-}
-
-fn is_too_large(size: Size) -> bool
-    ensures { λ r. ⌜ r ≡ tooLarge size ⌝ }
-{
-    Size::MOST_CELLS < size.width || Size::MOST_CELLS < size.height
 }
 
 // Adds the group whose words start at `at`. Returns where the next starts.
@@ -39,13 +36,11 @@ fn draw_group(
     at: usize,
 ) -> usize
     requires { ⌜ Room (now mask) (now floats) (now counters) size points ⌝ }
-    requires { ⌜ Clean (now floats) (now counters) (size .width) (size .height) ⌝ }
-    requires { ⌜ at < length (now words) ⌝ }
-    requires { ⌜ Fine (readGroup 0 (drop at (now words))) ⌝ }
-    requires { ⌜ groupPoints (readOr noGroup (readGroup 0 (drop at (now words)))) ≤ points ⌝ }
-    ensures { λ _. ⌜ now (mask .exit) ≡ rowsAdded (groupRow size (readOr noGroup (readGroup 0 (drop at (now (words .entry)))))) (size .width) (size .height) 0 (now (mask .entry)) ⌝ }
+    requires { ⌜ Clean (now floats) (now counters) size ⌝ }
+    requires { ⌜ GroupFine (now words) at points ⌝ }
+    ensures { λ _. ⌜ now (mask .exit) ≡ rowsAdded (groupRow size (groupAt (now (words .entry)) at)) size (now (mask .entry)) ⌝ }
     ensures { λ r. ⌜ r ≡ endOf (length (now (words .entry))) (readGroup 0 (drop at (now (words .entry)))) ⌝ }
-    ensures { λ _. ⌜ Clean (now (floats .exit)) (now (counters .exit)) (size .width) (size .height) ⌝ }
+    ensures { λ _. ⌜ Clean (now (floats .exit)) (now (counters .exit)) size ⌝ }
 {
     let head = words::head_at(words, at);
     let contours = head.contours;
@@ -75,10 +70,9 @@ fn draw_groups(
     words: &[i32],
 )
     requires { ⌜ Room (now mask) (now floats) (now counters) size points ⌝ }
-    requires { ⌜ Clean (now floats) (now counters) (size .width) (size .height) ⌝ }
+    requires { ⌜ Clean (now floats) (now counters) size ⌝ }
     requires { ⌜ now mask ≡ replicate (length (now mask)) 0 ⌝ }
-    requires { ⌜ Fine (readWords (now words)) ⌝ }
-    requires { ⌜ pointsIn (groupsOf (now words)) ≤ points ⌝ }
+    requires { ⌜ ListCounted (now words) points ⌝ }
     ensures { λ _. ⌜ now (mask .exit) ≡ drawingOf size (groupsOf (now (words .entry))) ⌝ }
 {
     let mut at = 0;
@@ -97,19 +91,18 @@ fn draw(
     words: &[i32],
 )
     requires { ⌜ Room (now mask) (now floats) (now counters) size points ⌝ }
-    requires { ⌜ Fine (readWords (now words)) ⌝ }
-    requires { ⌜ pointsIn (groupsOf (now words)) ≤ points ⌝ }
+    requires { ⌜ ListCounted (now words) points ⌝ }
     ensures { λ _. ⌜ now (mask .exit) ≡ drawingOf size (groupsOf (now (words .entry))) ⌝ }
     ensures { λ _. ⌜ now (floats .exit) ≡ replicate (length (now (floats .entry))) f0 ⌝ }
     ensures { λ _. ⌜ now (counters .exit) ≡ replicate (length (now (counters .entry))) 0 ⌝ }
 {
     let width = size.width;
-    coverage::clear_bytes(mask);
-    coverage::clear_floats(&mut floats[..width]);
-    coverage::clear_counters(counters);
+    cells::clear_bytes(mask);
+    cells::clear_floats(&mut floats[..width]);
+    cells::clear_counters(counters);
     draw_groups(mask, floats, counters, size, points, words);
-    coverage::clear_floats(floats);
-    coverage::clear_counters(counters);
+    cells::clear_floats(floats);
+    cells::clear_counters(counters);
 }
 
 // Draws a list without a fault, of so many points, where scratch is long enough.
@@ -121,23 +114,21 @@ fn draw_in(
     points: usize,
     words: &[i32],
 ) -> Outcome
-    requires { ⌜ (size .width ≤ 4096) × (size .height ≤ 4096) × (cellsOf size ≤ length (now mask)) ⌝ }
-    requires { ⌜ Fine (readWords (now words)) ⌝ }
-    requires { ⌜ (points ≡ pointsIn (groupsOf (now words))) × (points ≤ 2048) ⌝ }
-    ensures { λ r. ⌜ r ≡ listAnswer size (lentTo (now (mask .entry)) (now (floats .entry)) (now (counters .entry))) (readWords (now (words .entry))) ⌝ }
-    ensures { λ r. ⌜ now (mask .exit) ≡ maskAfterDrawing r size (now (words .entry)) (now (mask .entry)) ⌝ }
+    requires { ⌜ SizeAllowed size × (cellsOf size ≤ length (now mask)) ⌝ }
+    requires { ⌜ ListCounted (now words) points ⌝ }
+    ensures { λ r. ⌜ r ≡ drawAnswer (drawing size (now (words .entry)) (now (floats .entry)) (now (counters .entry))) (lent (now (mask .entry))) ⌝ }
+    ensures { λ r. ⌜ now (mask .exit) ≡ maskAfterDrawing r (drawing size (now (words .entry)) (now (floats .entry)) (now (counters .entry))) (now (mask .entry)) ⌝ }
     ensures { λ r. ⌜ now (floats .exit) ≡ floatsAfterDrawing r (now (floats .entry)) ⌝ }
     ensures { λ r. ⌜ now (counters .exit) ≡ countersAfterDrawing r (now (counters .entry)) ⌝ }
+    ensures { λ r. ⌜ DrawNumber (drawing size (now (words .entry)) (now (floats .entry)) (now (counters .entry))) (lent (now (mask .entry))) (outcomeNumber r) ⌝ }
 {
-    let width = size.width;
-    let height = size.height;
-    if floats.len() < width + 15 * points {
+    if floats.len() < coverage::floats_needed(size, points) {
         return Outcome::Refused(Fault::BufferTooShort);
     }
-    if counters.len() < (width + 63) / 64 + height + 1 {
+    if counters.len() < coverage::counters_needed(size) {
         return Outcome::Refused(Fault::BufferTooShort);
     }
-    let cells = width * height;
+    let cells = size.width * size.height;
     draw(&mut mask[..cells], floats, counters, size, points, words);
     Outcome::Done
 }
@@ -150,13 +141,13 @@ pub fn rasterize_into(
     floats: &mut [f32],
     counters: &mut [u64],
 ) -> Outcome
-    ensures answer { λ r. ⌜ r ≡ drawAnswer size (now (words .entry)) (lentTo (now (mask .entry)) (now (floats .entry)) (now (counters .entry))) ⌝ }
-    ensures cells { λ r. ⌜ now (mask .exit) ≡ maskAfterDrawing r size (now (words .entry)) (now (mask .entry)) ⌝ }
+    ensures answer { λ r. ⌜ r ≡ drawAnswer (drawing size (now (words .entry)) (now (floats .entry)) (now (counters .entry))) (lent (now (mask .entry))) ⌝ }
+    ensures cells { λ r. ⌜ now (mask .exit) ≡ maskAfterDrawing r (drawing size (now (words .entry)) (now (floats .entry)) (now (counters .entry))) (now (mask .entry)) ⌝ }
     ensures floats { λ r. ⌜ now (floats .exit) ≡ floatsAfterDrawing r (now (floats .entry)) ⌝ }
     ensures counters { λ r. ⌜ now (counters .exit) ≡ countersAfterDrawing r (now (counters .entry)) ⌝ }
-    ensures number { λ r. ⌜ DrawNumber size (now (words .entry)) (lentTo (now (mask .entry)) (now (floats .entry)) (now (counters .entry))) (outcomeNumber r) ⌝ }
+    ensures number { λ r. ⌜ DrawNumber (drawing size (now (words .entry)) (now (floats .entry)) (now (counters .entry))) (lent (now (mask .entry))) (outcomeNumber r) ⌝ }
 {
-    if is_too_large(size) {
+    if size.is_too_large() {
         return Outcome::Refused(Fault::MaskTooLarge);
     }
     if mask.len() < size.width * size.height {
@@ -177,14 +168,14 @@ pub fn intersect(
     other_size: Size,
     offset: Offset,
 ) -> Outcome
-    ensures answer { λ r. ⌜ r ≡ layAnswer size «other_size» (length (now (mask .entry))) (length (now (other .entry))) ⌝ }
-    ensures cells { λ r. ⌜ now (mask .exit) ≡ maskAfterLaying r size «other_size» offset (now (mask .entry)) (now (other .entry)) ⌝ }
-    ensures number { λ r. ⌜ LayNumber size «other_size» (length (now (mask .entry))) (length (now (other .entry))) (outcomeNumber r) ⌝ }
+    ensures answer { λ r. ⌜ r ≡ layAnswer (laying size «other_size» offset) (lent (now (mask .entry))) (length (now (other .entry))) ⌝ }
+    ensures cells { λ r. ⌜ now (mask .exit) ≡ maskAfterLaying r (laying size «other_size» offset) (now (mask .entry)) (now (other .entry)) ⌝ }
+    ensures number { λ r. ⌜ LayNumber (laying size «other_size» offset) (lent (now (mask .entry))) (length (now (other .entry))) (outcomeNumber r) ⌝ }
 {
-    if is_too_large(size) {
+    if size.is_too_large() {
         return Outcome::Refused(Fault::MaskTooLarge);
     }
-    if is_too_large(other_size) {
+    if other_size.is_too_large() {
         return Outcome::Refused(Fault::MaskTooLarge);
     }
     let cells = size.width * size.height;

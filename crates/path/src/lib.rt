@@ -65,22 +65,43 @@ impl PackedVerb {
 }
 
 impl Verb {
+    fn move_to(coords: &[f32], at: usize) -> Verb
+        requires { ⌜ at + 2 ≤ length (now coords) ⌝ }
+        ensures { λ r. ⌜ r ≡ fromPackedOf PackedVerb.MoveTo (now (coords .entry)) at ⌝ }
+    {
+        Verb::MoveTo(coords[at], coords[at + 1])
+    }
+
+    fn line_to(coords: &[f32], at: usize) -> Verb
+        requires { ⌜ at + 2 ≤ length (now coords) ⌝ }
+        ensures { λ r. ⌜ r ≡ fromPackedOf PackedVerb.LineTo (now (coords .entry)) at ⌝ }
+    {
+        Verb::LineTo(coords[at], coords[at + 1])
+    }
+
+    fn bezier_to(coords: &[f32], at: usize) -> Verb
+        requires { ⌜ at + 6 ≤ length (now coords) ⌝ }
+        ensures { λ r. ⌜ r ≡ fromPackedOf PackedVerb.BezierTo (now (coords .entry)) at ⌝ }
+    {
+        Verb::BezierTo(
+            coords[at],
+            coords[at + 1],
+            coords[at + 2],
+            coords[at + 3],
+            coords[at + 4],
+            coords[at + 5],
+        )
+    }
+
     // The verb with the positions that stand at place `at` of the floats.
     pub fn from_packed(packed: PackedVerb, coords: &[f32], at: usize) -> Verb
         requires { ⌜ at + 2 * numCoordinatesOf packed ≤ length (now coords) ⌝ }
         ensures { λ r. ⌜ r ≡ fromPackedOf packed (now (coords .entry)) at ⌝ }
     {
         match packed {
-            PackedVerb::MoveTo => Verb::MoveTo(coords[at], coords[at + 1]),
-            PackedVerb::LineTo => Verb::LineTo(coords[at], coords[at + 1]),
-            PackedVerb::BezierTo => Verb::BezierTo(
-                coords[at],
-                coords[at + 1],
-                coords[at + 2],
-                coords[at + 3],
-                coords[at + 4],
-                coords[at + 5],
-            ),
+            PackedVerb::MoveTo => Self::move_to(coords, at),
+            PackedVerb::LineTo => Self::line_to(coords, at),
+            PackedVerb::BezierTo => Self::bezier_to(coords, at),
             PackedVerb::Solid => Verb::Solid,
             PackedVerb::Hole => Verb::Hole,
             PackedVerb::Close => Verb::Close,

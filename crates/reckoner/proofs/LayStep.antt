@@ -1,5 +1,6 @@
--- Laying on, in one cell: the rounded product of two bytes against 255 times the product of two shares. Assumes nothing.
-use mathlib.Core.List.{[], _∷_}
+-- Laying on, in one cell: the rounded product of two bytes against 255 times the product of two shares. Assumes
+-- nothing.
+use mathlib.Core.List.{[], _∷_, _++_}
 use Prim.Native.Nat.{ℕ, _+_, _*_, _/_, _≤_}
 use native.Mathlib.Nat.{mul-le-mul}
 use native.Mathlib.Omega.{arith}
@@ -10,7 +11,6 @@ use Rattle.fraction.proofs.Near.{near-mul}
 use Rattle.fraction.proofs.Ring.{rep, reps, ring}
 use Rattle.bound.proofs.Share.{near-nonneg}
 
--- an allowed difference is not below 0
 -- (b * d + 127) / 255, rounded down, is off by 127 / 255
 down-hi : (b d : ℕ) → natᶠ 255 *ᶠ natᶠ ((b * d + 127) / 255) ≤ᶠ natᶠ b *ᶠ natᶠ d +ᶠ natᶠ 127
 unfolding _*ᶠ_ _+ᶠ_
@@ -38,7 +38,10 @@ pub lay-near : (b d : ℕ) (s t A B : Fraction) → d ≤ 255 → natᶠ 0 ≤�
     → Near (natᶠ ((b * d + 127) / 255)) (natᶠ 255 *ᶠ (s *ᶠ t)) (A +ᶠ (B +ᶠ 1 /2^ 1))
 lay-near b d s t A B l p q h k =
     let m = near-mul h k (share-within p q) (byte-within d l) in
-    over (natᶠ ((b * d + 127) / 255) ∷ natᶠ 255 *ᶠ natᶠ ((b * d + 127) / 255) ∷ natᶠ b *ᶠ natᶠ d ∷ natᶠ 255 *ᶠ (s *ᶠ t) ∷ natᶠ 255 *ᶠ (natᶠ 255 *ᶠ (s *ᶠ t)) ∷ natᶠ 255 *ᶠ s *ᶠ (natᶠ 255 *ᶠ t) ∷ A ∷ B ∷ natᶠ 255 *ᶠ A ∷ A *ᶠ natᶠ 255 ∷ natᶠ 255 *ᶠ B ∷ natᶠ 127 ∷ 1 /2^ 1 ∷ [])
+    let byte = natᶠ ((b * d + 127) / 255) in
+    let full = natᶠ 255 in
+    let values = byte ∷ full *ᶠ byte ∷ natᶠ b *ᶠ natᶠ d ∷ full *ᶠ (s *ᶠ t) ∷ full *ᶠ (full *ᶠ (s *ᶠ t)) ∷ full *ᶠ s *ᶠ (full *ᶠ t) ∷ [] in
+    over (values ++ (A ∷ B ∷ full *ᶠ A ∷ A *ᶠ full ∷ full *ᶠ B ∷ natᶠ 127 ∷ 1 /2^ 1 ∷ []))
     (λ N n Z Z2 P T T2 Q X Y X2 X3 Y2 C H.
     let z2 = scale-at N (natᶠ 255) Z Z2 in
     let t2 = scale-at N (natᶠ 255) T T2 in

@@ -2,19 +2,19 @@
 use mathlib.Core.Path.{_≡_, refl, ap₂}
 use mathlib.Core.List.{List, [], _∷_}
 use Prim.Native.Nat.{ℕ}
-use Rattle.mask.specs.Calls.{outcomeNumber}
+use Rattle.mask.specs.Calls.{Lent, outcomeNumber}
 use Rattle.mask.proofs.Numbers.{numbers-exactly-when}
 use Rattle.reckoner.specs.Reckoner.{Two, of, Call, draw, lay, answer, answers}
 use Rattle.reckoner.specs.Claim.{CallNumber, CallNumbers, numbers}
 
-module _ (lengths : Two ℕ) where
+module _ (lengths : Two Lent) where
   call-only : (c : Call) → CallNumber lengths c (outcomeNumber (answer lengths c))
-  call-only (draw p size words floats counters) = numbers-exactly-when .draw-only size words (record { mask = of p lengths; floats = floats; counters = counters })
-  call-only (lay size otherSize offset) = numbers-exactly-when .lay-only size otherSize (lengths .atRunning) (lengths .atNext)
+  call-only (draw p d) = numbers-exactly-when .draw-only d (of p lengths)
+  call-only (lay l) = numbers-exactly-when .lay-only l (lengths .atRunning) (lengths .atNext .mask)
 
   call-always : (c : Call) (n : ℕ) → CallNumber lengths c n → outcomeNumber (answer lengths c) ≡ n
-  call-always (draw p size words floats counters) n h = numbers-exactly-when .draw-always size words (record { mask = of p lengths; floats = floats; counters = counters }) n h
-  call-always (lay size otherSize offset) n h = numbers-exactly-when .lay-always size otherSize (lengths .atRunning) (lengths .atNext) n h
+  call-always (draw p d) n h = numbers-exactly-when .draw-always d (of p lengths) n h
+  call-always (lay l) n h = numbers-exactly-when .lay-always l (lengths .atRunning) (lengths .atNext .mask) n h
 
   pub list-only : (cs : List Call) → CallNumbers lengths cs (numbers (answers lengths cs))
   list-only [] = tt

@@ -3,9 +3,9 @@ use mathlib.Core.List.{List, [], _∷_}
 use Prim.Native.Nat.{ℕ, zero, suc, _≤_}
 use native.Mathlib.Omega.{arith}
 use lib.ListN.{getD, replicate}
-use Rattle.words.specs.Words.{Group}
-use Rattle.row.specs.Sweep.{addBytes}
-use Rattle.coverage.specs.declared.Size.{Size}
+use Rattle.word_list.specs.Words.{Group}
+use Rattle.sweep.specs.Bytes.{addBytes}
+use Rattle.cells.specs.declared.Size.{Size}
 use Rattle.coverage.specs.Drawing.{groupRow, addGroups, drawingRow}
 
 added-small : (line bytes : List ℕ) (c : ℕ) → ((i : ℕ) → getD line i 0 ≤ 255) → getD (addBytes line bytes) c 0 ≤ 255

@@ -1,5 +1,6 @@
--- The reckoner (document 01, 'The reckoner'), in exact fractions. It is given the arguments of the calls and, of masks and scratch, the lengths only. Of the engine's definitions it takes
--- the table of causes (mask/specs/Calls.antt) and how a word list is read (words/specs/Words.antt); no float enters. Definitions only.
+-- The reckoner (document 01, 'The reckoner'), in exact fractions. It is given the arguments of the calls and, of masks
+-- and scratch, the lengths only. Of the engine's definitions it takes the table of causes (mask/specs/Calls.antt) and
+-- how a word list is read (word_list/specs/Words.antt); no float enters. Definitions only.
 use Prim.Native.Nat.{ℕ}
 use mathlib.Core.Path.{_≡_}
 use mathlib.Core.Bool.{cond, _&&_}
@@ -7,20 +8,21 @@ use mathlib.Core.List.{List, [], _∷_}
 use lib.Dec.{ltb}
 use lib.IntN.{ℤ, pos, negsuc, _+ℤ_}
 use Rattle.fraction.specs.Fraction.{Fraction, natᶠ, _/2^_, _+ᶠ_, _*ᶠ_}
-use Rattle.words.specs.Words.{Group, groupsOf}
+use Rattle.word_list.specs.Words.{groupsOf}
 use Rattle.winding.specs.Drawn.{drawnShare, allowedDifference}
-use Rattle.coverage.specs.declared.Size.{Size}
+use Rattle.cells.specs.declared.Size.{Size}
 use Rattle.laying.specs.declared.Offset.{Offset}
+use Rattle.laying.specs.Laying.{Laying}
 use Rattle.mask.specs.declared.Outcome.{Outcome}
 use Rattle.mask.specs.declared.Outcome.the-variants.{Done, Refused}
-use Rattle.mask.specs.Calls.{drawAnswer, layAnswer}
+use Rattle.mask.specs.Calls.{Lent, Drawing, drawAnswer, layAnswer}
 
 -- ---- what is held
 
 -- 'it holds a width, a height and, per cell, a share and an allowed difference'
 pub record Cell : Type 0 where
   pub share : Fraction
-  pub allowed : Fraction
+  pub difference : Fraction
 
 pub record Held : Type 0 where
   pub size : Size
@@ -44,24 +46,29 @@ put next a t = record { atRunning = t .atRunning; atNext = a }
 
 -- 'At first both are 0 by 0.'
 abbrev pub nothingHeld : Held
-nothingHeld = record { size = record { width = 0; height = 0 }; cell = λ column row. record { share = natᶠ 0; allowed = natᶠ 0 } }
+nothingHeld = record { size = record { width = 0; height = 0 }; cell = λ column row. record { share = natᶠ 0; difference = natᶠ 0 } }
 
 abbrev pub atFirst : Two Held
 atFirst = record { atRunning = nothingHeld; atNext = nothingHeld }
 
 -- ---- its steps
 
--- 'A done drawing sets its mask's size and forgets what was there.' Shares and allowed differences: winding/specs/Drawn.antt
-abbrev pub drawnHeld : Size → List Group → Held
-drawnHeld size gs = record { size = size; cell = λ column row. record { share = drawnShare gs column row; allowed = allowedDifference gs row } }
+-- 'A done drawing sets its mask's size and forgets what was there.' Shares and allowed differences:
+-- winding/specs/Drawn.antt
+abbrev pub drawnHeld : Drawing → Held
+drawnHeld d = record {
+  size = d .size;
+  cell = λ column row. record { share = drawnShare (groupsOf (d .words)) column row; difference = allowedDifference (groupsOf (d .words)) row };
+}
 
--- 'Where the next mask has a cell at the place met, the running cell's share is multiplied by that cell's, and its allowed difference grows by that cell's and a half.
--- Elsewhere the share becomes 0, and the allowed difference grows by a half.'
+-- 'Where the next mask has a cell at the place met, the running cell's share is multiplied by that cell's, and its
+-- allowed difference grows by that cell's and a half. Elsewhere the share becomes 0, and the allowed difference grows
+-- by a half.'
 abbrev pub both : Cell → Cell → Cell
-both a b = record { share = a .share *ᶠ b .share; allowed = a .allowed +ᶠ (b .allowed +ᶠ 1 /2^ 1) }
+both a b = record { share = a .share *ᶠ b .share; difference = a .difference +ᶠ (b .difference +ᶠ 1 /2^ 1) }
 
 abbrev pub alone : Cell → Cell
-alone a = record { share = natᶠ 0; allowed = a .allowed +ᶠ 1 /2^ 1 }
+alone a = record { share = natᶠ 0; difference = a .difference +ᶠ 1 /2^ 1 }
 
 abbrev pub meets : Held → Cell → ℤ → ℤ → Cell
 meets other a (pos x) (pos y) = cond (ltb x (other .size .width) && ltb y (other .size .height)) (both a (other .cell x y)) (alone a)
@@ -76,36 +83,36 @@ laidHeld mask other offset =
 -- ---- calls
 
 pub data Call : Type 0 where
-  -- the mask drawn, its size, the words, and how many floats and counters are lent as scratch
-  draw : Place → Size → List ℤ → ℕ → ℕ → Call
-  -- the next mask on the running one: the running size, the next one's, and the offset
-  lay : Size → Size → Offset → Call
+  -- a drawing of the mask at a place
+  draw : Place → Drawing → Call
+  -- the next mask laid on the running one
+  lay : Laying → Call
 
 -- the answer that document 01's table and order give, for mask buffers of these lengths
-abbrev pub answer : Two ℕ → Call → Outcome
-answer lengths (draw p size words floats counters) = drawAnswer size words (record { mask = of p lengths; floats = floats; counters = counters })
-answer lengths (lay size otherSize offset) = layAnswer size otherSize (lengths .atRunning) (lengths .atNext)
+abbrev pub answer : Two Lent → Call → Outcome
+answer lengths (draw p d) = drawAnswer d (of p lengths)
+answer lengths (lay l) = layAnswer l (lengths .atRunning) (lengths .atNext .mask)
 
-abbrev pub answers : Two ℕ → List Call → List Outcome
+abbrev pub answers : Two Lent → List Call → List Outcome
 answers lengths [] = []
 answers lengths (c ∷ cs) = answer lengths c ∷ answers lengths cs
 
 -- 'A call that the table of causes turns away changes nothing.' .. 'The next mask stays.'
 abbrev pub step : Outcome → Call → Two Held → Two Held
 step (Refused f) c held = held
-step Done (draw p size words floats counters) held = put p (drawnHeld size (groupsOf words)) held
-step Done (lay size otherSize offset) held = put running (laidHeld (held .atRunning) (held .atNext) offset) held
+step Done (draw p d) held = put p (drawnHeld d) held
+step Done (lay l) held = put running (laidHeld (held .atRunning) (held .atNext) (l .offset)) held
 
-abbrev pub reckoned : Two ℕ → List Call → Two Held → Two Held
+abbrev pub reckoned : Two Lent → List Call → Two Held → Two Held
 reckoned lengths [] held = held
 reckoned lengths (c ∷ cs) held = reckoned lengths cs (step (answer lengths c) c held)
 
 -- 'In the lists meant, a done laying-on is given the sizes held.'
 abbrev pub GivenSizes : Outcome → Call → Two Held → Type 0
 GivenSizes (Refused f) c held = Unit {0}
-GivenSizes Done (draw p size words floats counters) held = Unit {0}
-GivenSizes Done (lay size otherSize offset) held = (size ≡ held .atRunning .size) × (otherSize ≡ held .atNext .size)
+GivenSizes Done (draw p d) held = Unit {0}
+GivenSizes Done (lay l) held = (l .size ≡ held .atRunning .size) × (l .otherSize ≡ held .atNext .size)
 
-abbrev pub Meant : Two ℕ → List Call → Two Held → Type 0
+abbrev pub Meant : Two Lent → List Call → Two Held → Type 0
 Meant lengths [] held = Unit {0}
 Meant lengths (c ∷ cs) held = GivenSizes (answer lengths c) c held × Meant lengths cs (step (answer lengths c) c held)

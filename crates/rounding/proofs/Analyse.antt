@@ -1,7 +1,9 @@
--- AN ERROR ANALYSIS BY COMPUTATION. An expression `E` of floats is given with a list of leaves, and `analyse` says how far its float value is from its exact
--- value: `err`, a closed fraction that computes. A leaf is a float with the fraction that it stands for, a bound of that fraction's size and a bound of the error.
--- An operation's bound is worked out from its operands' (`auto`), or is one that the caller knows (`known b`) and proves (`Needs`). A quotient names a number that
--- its divisor's size reaches (`over l`), which the caller proves too. `ok` tests that nothing overflows and that no error reaches a divisor. Assumes nothing.
+-- AN ERROR ANALYSIS BY COMPUTATION. An expression `E` of floats is given with a list of leaves, and `analyse` says
+-- how far its float value is from its exact value: `err`, a closed fraction that computes. A leaf is a float with the
+-- fraction that it stands for, a bound of that fraction's size and a bound of the error. An operation's bound is
+-- worked out from its operands' (`auto`), or is one that the caller knows (`known b`) and proves (`Needs`). A
+-- quotient names a number that its divisor's size reaches (`over l`), which the caller proves too. `ok` tests that
+-- nothing overflows and that no error reaches a divisor. Assumes nothing.
 use mathlib.Core.Bool.{Bool, true, false, _&&_}
 use Prim.Native.Nat.{_^_}
 use lib.Dec.{T}
@@ -75,7 +77,8 @@ abbrev pub pick : Bound → Fraction → Fraction
 pick auto b = b
 pick (known b) c = b
 
--- the error before the rounding, from bounds b and c and errors d and e of the operands and a bound q of the exact result
+-- the error before the rounding, from bounds b and c and errors d and e of the operands and a bound q of the exact
+-- result
 abbrev pub drift : Op → Fraction → Fraction → Fraction → Fraction → Fraction → Fraction
 drift plus q b d c e = d +ᶠ e
 drift minus q b d c e = d +ᶠ e

@@ -1,4 +1,5 @@
--- `round` by the fraction that it is worth: ± grid / 2 ^ low, where nothing overflows. A value of the format comes back as it is, and so bounds whatever rounds below or above it. Assumes nothing.
+-- `round` by the fraction that it is worth: ± grid / 2 ^ low, where nothing overflows. A value of the format comes
+-- back as it is, and so bounds whatever rounds below or above it. Assumes nothing.
 use mathlib.Core.Path.{_≡_, refl, sym, ap, _∙_, subst}
 use mathlib.Core.Bool.{Bool, true, false, _&&_}
 use Prim.Native.Nat.{ℕ, zero, suc, _+_, _-_, _*_, _%_, _^_, _≤_, _<_}
@@ -30,7 +31,8 @@ top-is binary32 = refl
 top-is binary64 = refl
 
 fine : (G c n P E : ℕ) → 0 < c → 2 ≤ P → 2 ≤ E → Off G c n P (c * P) → n ≤ E * c → G < 2 * E
-fine G c n P E C p e o h = lt-of-not-le (λ (g : 2 * E ≤ G). omega (arith, o .hi, mul-le-mul-right (2 * P) h, mul-le-mul-right (c * (2 * P)) g, mul-le-mul-left (E * c) p, mul-le-mul-right (c * P) e, mul-le-mul-left c p))
+fine G c n P E C p e o h =
+    lt-of-not-le (λ (g : 2 * E ≤ G). omega (arith, o .hi, mul-le-mul-right (2 * P) h, mul-le-mul-right (c * (2 * P)) g, mul-le-mul-left (E * c) p, mul-le-mul-right (c * P) e, mul-le-mul-left c p))
 
 pub under : (f : Format) (a c : ℕ) → 0 < c → a ≤ 2 ^ emax f * c → grid f a c < overflow f
 under f a c C h =
@@ -95,7 +97,8 @@ own-rounding f s r (suc m) e t =
     omega (arith, q, mul-lt-mul-of-pos-right (p .2) (pow-pos (low f)), ap (λ (x : ℕ). x * down e) (pow-add 2 (low f) (suc (emax f)))) in
     round-exact f r (M * up e) (down e) M (j .0) (down-pos e) (p .0) (lt-of-mul-lt-mul-right (down e) w) q
 
--- ---- so it bounds what rounds below or above it. The value is b / d in size, the fraction a / c, and G / 2 ^ low what that rounds to
+-- ---- so it bounds what rounds below or above it. The value is b / d in size, the fraction a / c, and G / 2 ^ low
+-- what that rounds to
 module _ (f : Format) (a c : ℕ) (C : 0 < c) (h : a ≤ 2 ^ emax f * c) (s : Bool) (m : ℕ) (e : ℤ) (t : T (fits f (fin s m e))) where
   mine : T (finite (round f false a c)) × (val (round f false a c) ≈ᶠ signedᶠ false (grid f a c) (2 ^ low f) (pow-pos (low f)))
   mine = value-is (round f false a c) false (grid f a c) (2 ^ low f) (pow-pos (low f)) (round-value f false a c (under f a c C h))
@@ -105,10 +108,14 @@ module _ (f : Format) (a c : ℕ) (C : 0 < c) (h : a ≤ 2 ^ emax f * c) (s : Bo
 
   pub cap-above : a * down e ≤ m * up e * c → grid f a c * down e ≤ m * up e * 2 ^ low f
   cap-above l =
-      let k = trans (of-eq (sym≈ (mine .1))) (trans (le-val (round f false a c) (round f false (m * up e) (down e)) (mine .0) (its .0) (round-mono f a c (m * up e) (down e) C (down-pos e) l)) (of-eq (its .1))) in
+      let k =
+      trans (of-eq (sym≈ (mine .1)))
+      (trans (le-val (round f false a c) (round f false (m * up e) (down e)) (mine .0) (its .0) (round-mono f a c (m * up e) (down e) C (down-pos e) l)) (of-eq (its .1))) in
       omega (arith, k .le)
 
   pub cap-below : m * up e * c ≤ a * down e → m * up e * 2 ^ low f ≤ grid f a c * down e
   cap-below l =
-      let k = trans (of-eq (sym≈ (its .1))) (trans (le-val (round f false (m * up e) (down e)) (round f false a c) (its .0) (mine .0) (round-mono f (m * up e) (down e) a c (down-pos e) C l)) (of-eq (mine .1))) in
+      let k =
+      trans (of-eq (sym≈ (its .1)))
+      (trans (le-val (round f false (m * up e) (down e)) (round f false a c) (its .0) (mine .0) (round-mono f (m * up e) (down e) a c (down-pos e) C l)) (of-eq (mine .1))) in
       omega (arith, k .le)

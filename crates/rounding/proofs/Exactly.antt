@@ -1,5 +1,5 @@
--- Where nothing is rounded: sums and differences of multiples of 2 ^ -k whose result, in units of 2 ^ -k, is below 2 ^ prec. `At (2 ^ k) (val x)` says that x is such a multiple,
--- and holds the number of units. Assumes nothing.
+-- Where nothing is rounded: sums and differences of multiples of 2 ^ -k whose result, in units of 2 ^ -k, is below 2
+-- ^ prec. `At (2 ^ k) (val x)` says that x is such a multiple, and holds the number of units. Assumes nothing.
 use mathlib.Core.Path.{_≡_, sym, ap, _∙_, subst}
 use mathlib.Core.Bool.{Bool, true, false}
 use Prim.Native.Nat.{ℕ, suc, _+_, _-_, _*_, _^_, _≤_, _<_}
@@ -51,7 +51,8 @@ count false z d c K C h =
     omega (arith, h, ap (λ (t : ℕ). t * c) q, ap (λ (t : ℕ). t * c) (u .1))
 
 -- ---- the sum and the difference
-pub add-exact : (f : Format) (k : ℕ) (x y : Float) → T (finite x) → T (finite y) → k ≤ low f → (X : At (2 ^ k) (val x)) (Y : At (2 ^ k) (val y)) → sizeʷ (X .z +ʷ Y .z) < 2 ^ prec f → Is (val x +ᶠ val y) (add f x y)
+pub add-exact : (f : Format) (k : ℕ) (x y : Float) → T (finite x) → T (finite y) → k ≤ low f → (X : At (2 ^ k) (val x))
+    (Y : At (2 ^ k) (val y)) → sizeʷ (X .z +ʷ Y .z) < 2 ^ prec f → Is (val x +ᶠ val y) (add f x y)
 unfolding add val
 add-exact f k nan y p q l X Y h = absurd p
 add-exact f k (inf s) y p q l X Y h = absurd p
@@ -65,13 +66,15 @@ add-exact f k (fin s m e) (fin t n d) p q l X Y h =
     subst (λ (r : Float). Is (signedᶠ s (m * up e) (down e) (down-pos e) +ᶠ signedᶠ t (n * up d) (down d) (down-pos d)) r) (sym (S .is))
     (is-same E (round-is-exact f (S .r) (S .d) (down e * down d) C (sizeʷ (X .z +ʷ Y .z)) k l h (count (S .r) (X .z +ʷ Y .z) (S .d) (down e * down d) (2 ^ k) C (Z .is))))
 
-pub sub-exact : (f : Format) (k : ℕ) (x y : Float) → T (finite x) → T (finite y) → k ≤ low f → (X : At (2 ^ k) (val x)) (Y : At (2 ^ k) (val y)) → sizeʷ (X .z -ʷ Y .z) < 2 ^ prec f → Is (val x -ᶠ val y) (sub f x y)
+pub sub-exact : (f : Format) (k : ℕ) (x y : Float) → T (finite x) → T (finite y) → k ≤ low f → (X : At (2 ^ k) (val x))
+    (Y : At (2 ^ k) (val y)) → sizeʷ (X .z -ʷ Y .z) < 2 ^ prec f → Is (val x -ᶠ val y) (sub f x y)
 unfolding sub
 sub-exact f k x y p q l X Y h =
     is-same (minus-is (val x) (val y) (val (Ieee.neg y)) (val-neg y)) (add-exact f k x (Ieee.neg y) p (finite-neg y q) l X (at-same (2 ^ k) (sym≈ (val-neg y)) (neg-at (2 ^ k) Y)) h)
 
 -- ---- the product, of a multiple of 2 ^ -j and one of 2 ^ -k. A factor that is a power of two (0.5, 256) is such a one
-pub mul-exact : (f : Format) (j k : ℕ) (x y : Float) → T (finite x) → T (finite y) → j + k ≤ low f → (X : At (2 ^ j) (val x)) (Y : At (2 ^ k) (val y)) → sizeʷ (X .z *ʷ Y .z) < 2 ^ prec f → Is (val x *ᶠ val y) (mul f x y)
+pub mul-exact : (f : Format) (j k : ℕ) (x y : Float) → T (finite x) → T (finite y) → j + k ≤ low f
+    → (X : At (2 ^ j) (val x)) (Y : At (2 ^ k) (val y)) → sizeʷ (X .z *ʷ Y .z) < 2 ^ prec f → Is (val x *ᶠ val y) (mul f x y)
 unfolding mul val
 mul-exact f j k nan y p q l X Y h = absurd p
 mul-exact f j k (inf s) y p q l X Y h = absurd p

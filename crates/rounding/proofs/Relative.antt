@@ -1,6 +1,8 @@
--- Relative errors of floats: `Approx f x X r t` says that x, a value of the format, stands for X with |x - X| ≤ r * |X| + t. A rounding makes r into `once f r`, a
--- product adds the two and their product, a quotient takes the divisor's through its reciprocal. The sizes that the caller hands over (b, c) only keep results from
--- overflowing and weigh the terms in `tiny`, so they may be crude: X may be as large as 2 ^ 24 beside an r that is a few units of the last place. Assumes nothing.
+-- Relative errors of floats: `Approx f x X r t` says that x, a value of the format, stands for X with |x - X| ≤ r *
+-- |X| + t. A rounding makes r into `once f r`, a product adds the two and their product, a quotient takes the
+-- divisor's through its reciprocal. The sizes that the caller hands over (b, c) only keep results from overflowing
+-- and weigh the terms in `tiny`, so they may be crude: X may be as large as 2 ^ 24 beside an r that is a few units of
+-- the last place. Assumes nothing.
 use mathlib.Core.List.{[], _∷_}
 use Prim.Native.Nat.{_^_}
 use native.Mathlib.Omega.{arith}
@@ -29,7 +31,10 @@ pub approx-self : (f : Format) (x : Float) → T (finite x) → T (fits f x) →
 approx-self f x p h = record {
   fine = p;
   held = h;
-  rel = record { near = near-weaken (near-refl (val x)) (over (natᶠ 0 *ᶠ absᶠ (val x) ∷ absᶠ (val x) ∷ natᶠ 0 ∷ []) (λ N n Z A O. le-at N O (add-at N Z O) n (omega (arith, O .is, scale-at N (natᶠ 0) A Z)))) };
+  rel = record {
+    near = near-weaken (near-refl (val x))
+        (over (natᶠ 0 *ᶠ absᶠ (val x) ∷ absᶠ (val x) ∷ natᶠ 0 ∷ []) (λ N n Z A O. le-at N O (add-at N Z O) n (omega (arith, O .is, scale-at N (natᶠ 0) A Z))));
+  };
 }
 
 -- ---- one rounding more
@@ -81,7 +86,8 @@ module _ (f : Format) (x y : Float) (X Y r t b s v c : Fraction) (A : Approx f x
       let h = mul-rounds f x y (A .fine) (B .fine) (within-weaken (within-spread (p .both0) m (within-mul wx wy)) l) in
       record { fine = h .fine; held = mul-fits f x y; rel = rel-round h m }
 
--- ---- the quotient. The divisor's error is a part of it alone (v = 0), at most a half; its reciprocal's is w, where s ≤ w * (1 - s)
+-- ---- the quotient. The divisor's error is a part of it alone (v = 0), at most a half; its reciprocal's is w, where
+-- s ≤ w * (1 - s)
 pub rel-not : {y Y s : Fraction} → s ≤ᶠ 1 /2^ 1 → Rel y Y s (natᶠ 0) → ¬ (Y ≈ᶠ natᶠ 0) → ¬ (y ≈ᶠ natᶠ 0)
 rel-not {y} {Y} {s} l h f e =
     let a = abs-of-within (within-near (near-sym (h .near)) (within-abs y)) in

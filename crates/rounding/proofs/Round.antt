@@ -19,7 +19,8 @@ use Rattle.rounding.specs.Rounding.{Rounds}
 use Rattle.rounding.proofs.Grid.{Off, grid-off, grid-off-units}
 use Rattle.rounding.proofs.Base.{value-is, round-value, under, cap-above, cap-below}
 
--- ---- the rounded fraction ± G / L and the fraction ± a / c, over N = L * c * 2 ^ prec. t is z / N, half the smallest value or 0
+-- ---- the rounded fraction ± G / L and the fraction ± a / c, over N = L * c * 2 ^ prec. t is z / N, half the
+-- smallest value or 0
 module _ (s : Bool) (G c L a P z : ℕ) (C : 0 < c) (l : 0 < L) (p : 0 < 2 * P) where
   abbrev N : ℕ
   N = L * c * (2 * P)

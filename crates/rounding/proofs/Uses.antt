@@ -13,7 +13,8 @@ use Rattle.rounding.proofs.Analyse.{E, leaf, op, plus, over as per, aut
 use Rattle.rounding.proofs.Relative.{approx-self, mul-approx, div-approx}
 use Rattle.fraction.proofs.Relative.{rel-near}
 
--- An analysis with a quotient: (a + b) / c for sizes up to 4,096 and a c of size 1/2 at least is off by less than 2 ^ -8
+-- An analysis with a quotient: (a + b) / c for sizes up to 4,096 and a c of size 1/2 at least is off by less than 2 ^
+-- -8
 module _ (a b c : Float) (A : T (finite a) × T (fits binary32 a) × Within (val a) (natᶠ 4096)) (B : T (finite b) × T (fits binary32 b) × Within (val b) (natᶠ 4096))
     (C : T (finite c) × T (fits binary32 c) × Within (val c) (natᶠ 4096)) (large : 1 /2^ 1 ≤ᶠ absᶠ (val c)) where
   quotient : E binary32
@@ -25,7 +26,8 @@ module _ (a b c : Float) (A : T (finite a) × T (fits binary32 a) × Within (val
   unfolding quotient _+ᶠ_ _-ᶠ_ _*ᶠ_ _/ᶠ_ invᶠ
   quotient-near = near-weaken ((analyse quotient tt (tt, large, (tt, tt, tt, tt), tt)) .near) (lit tt)
 
--- Relative errors: x + t * (dx / dy), an edge's crossing at a height. The slope dx / dy may be 2 ^ 21, but t * (dx / dy) is at most 8,192, and the sum 4,096
+-- Relative errors: x + t * (dx / dy), an edge's crossing at a height. The slope dx / dy may be 2 ^ 21, but t * (dx /
+-- dy) is at most 8,192, and the sum 4,096
 module _ (x t dx dy : Float) (X : T (finite x) × T (fits binary32 x)) (S : T (finite t) × T (fits binary32 t)) (D : T (finite dx) × T (fits binary32 dx)) (H : T (finite dy) × T (fits binary32 dy))
     (dx-size : Within (val dx) (natᶠ 8192)) (some : ¬ (val dy ≈ᶠ natᶠ 0)) (dy-size : Within (invᶠ (val dy)) (natᶠ 256)) (t-size : Within (val t) (natᶠ 8192)) where
   abbrev slope : Fraction

@@ -1,4 +1,5 @@
--- What one rounding does, over the width: `proofs/Laws.antt` has an element of each record for every format. Statements only.
+-- What one rounding does, over the width: `proofs/Laws.antt` has an element of each record for every format.
+-- Statements only.
 use Prim.Native.Nat.{ℕ, _+_, _^_, _≤_, _<_}
 use lib.Dec.{T}
 use lib.Ieee.{Float, Format, prec, emax, low, add, sub, mul, div, lt, le, eq, fits}
@@ -22,7 +23,8 @@ pub record OperationLaws (f : Format) : Type 0 where
   pub div-rounds : (x y : Float) (X : Fraction) → Finite f x → Finite f y → ¬ (val y ≈ᶠ natᶠ 0) → X *ᶠ val y ≈ᶠ val x → Within X (natᶠ (2 ^ emax f))
       → Rounds f (tiny f) X (div f x y)
 
--- and do not round where the format holds the result: x and y are whole numbers of 2 ^ -j and 2 ^ -k, and the result one of fewer than 2 ^ prec units
+-- and do not round where the format holds the result: x and y are whole numbers of 2 ^ -j and 2 ^ -k, and the result
+-- one of fewer than 2 ^ prec units
 pub record Units (k : ℕ) (x : Float) (z : Whole) : Type 0 where
   pub is : z ×ℕ (val x) .den ≈ʷ (val x) .num ×ℕ (2 ^ k)
 

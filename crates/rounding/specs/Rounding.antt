@@ -5,8 +5,9 @@ use lib.Ieee.Scale.{finite}
 use Rattle.fraction.specs.Fraction.{Fraction, _≤ᶠ_, _≈ᶠ_, _+ᶠ_, _*ᶠ_, Near, Within}
 use Rattle.rounding.specs.Value.{val, roundoff}
 
--- r is X rounded to the format f: it is finite, and for each bound B of X's size it is off by at most 2 ^ -prec of B and by t, which is `tiny f` for a product or a
--- quotient and 0 for a sum. B is whatever is known of X: a literal gives an absolute error, |X| the relative one. No value of the format lies between X and r.
+-- r is X rounded to the format f: it is finite, and for each bound B of X's size it is off by at most 2 ^ -prec of B
+-- and by t, which is `tiny f` for a product or a quotient and 0 for a sum. B is whatever is known of X: a literal
+-- gives an absolute error, |X| the relative one. No value of the format lies between X and r.
 pub record Rounds (f : Format) (t X : Fraction) (r : Float) : Type 0 where
   pub fine : T (finite r)
   pub near : (B : Fraction) → Within X B → Near (val r) X (roundoff f *ᶠ B +ᶠ t)

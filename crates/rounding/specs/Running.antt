@@ -1,4 +1,5 @@
--- A running sum `r + a₀ + a₁ + ..` from the left, each addition rounded, and the same sum without rounding. Definitions, and the statement that is proved of them.
+-- A running sum `r + a₀ + a₁ + ..` from the left, each addition rounded, and the same sum without rounding.
+-- Definitions, and the statement that is proved of them.
 use mathlib.Core.List.{List, [], _∷_}
 use Prim.Native.Nat.{ℕ, suc, _^_}
 use lib.Dec.{T}

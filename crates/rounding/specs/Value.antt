@@ -1,5 +1,5 @@
--- What a float is worth as a fraction, and the two numbers that bound a rounding. IEEE 754: a finite float is (-1)^s * m * 2^e, and an operation's result is the
--- value of the format that is nearest to the exact one. Definitions only.
+-- What a float is worth as a fraction, and the two numbers that bound a rounding. IEEE 754: a finite float is (-1)^s
+-- * m * 2^e, and an operation's result is the value of the format that is nearest to the exact one. Definitions only.
 use mathlib.Core.Bool.{Bool, true, false}
 use Prim.Native.Nat.{ℕ, _-_, _*_, _^_, _<_}
 use native.Mathlib.Nat.{zero-lt-suc, mul-pos}
@@ -18,7 +18,8 @@ signed true n = record { plus = 0; minus = n }
 abbrev pub signedᶠ : Bool → ℕ → (c : ℕ) → 0 < c → Fraction
 signedᶠ s a c C = record { num = signed s a; den = c; pos = C }
 
--- a finite float's value: ± m * 2 ^ e, 2 ^ e being up e / down e. A NaN and an infinity have none, and 0 stands in for it
+-- a finite float's value: ± m * 2 ^ e, 2 ^ e being up e / down e. A NaN and an infinity have none, and 0 stands in
+-- for it
 unfoldable pub val : Float → Fraction
 val nan = natᶠ 0
 val (inf s) = natᶠ 0

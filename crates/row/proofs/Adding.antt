@@ -1,5 +1,5 @@
 -- Cells that are added to: by `add` one, by `evenly` a run of them. Assumes nothing.
-use mathlib.Core.Path.{_≡_, refl, sym, ap, ap₂, _∙_}
+use mathlib.Core.Path.{_≡_, refl, sym, ap, _∙_}
 use mathlib.Core.Logic.{_⊎_, inl, inr}
 use mathlib.Core.Bool.{Bool, true, false, cond}
 use mathlib.Core.List.{[], _∷_, _++_, map, append-assoc}
@@ -8,11 +8,11 @@ use native.Mathlib.Numerals.{add-one}
 use native.Mathlib.Omega.{arith}
 use native.Mathlib.Decide.{decLt}
 use lib.Dec.{ltb, leb}
-use lib.ListN.{length, getD, set, take, drop, length-set, take-append-drop}
+use lib.ListN.{length, getD, set, take, drop, length-set, take-append-drop, List·getD-append}
 use lib.Seq.{getD-set-other, getD-append-add, getD-drop, getD-take, drop-cons, drop-set-lt, take-suc-set, length-take-le}
 use lib.Ieee.{Float, nan, ne, lt}
 use lib.Ieee.Casts.{toUnsigned-lt}
-use borrow.Author.Tests.{lt-ltb, le-ltb, le-leb, lt-leb}
+use borrow.Author.Tests.{lt-ltb, le-ltb, le-leb, lt-leb, eq-eqb, ne-eqb}
 use borrow.Rule.Slice.PartMut.{putMid}
 use Rattle.float.specs.Ops.{f0, f½, f1, _⊕_, _⊖_, _⊗_, _⊘_}
 use Rattle.float.specs.Whole.{columnOf, ofWhole}
@@ -20,7 +20,8 @@ use Rattle.row.specs.Row.{Cells, addOf, evenlyOf, singleOf, betweenOf, a
 
 -- ---- one cell
 
-pub add-in : (cells : Cells) (cell : ℕ) (area : Float) → cell < length cells → ne area f0 ≡ true → set cells cell (getD cells cell nan ⊕ area) ≡ addOf cells cell area
+pub add-in : (cells : Cells) (cell : ℕ) (area : Float) → cell < length cells → ne area f0 ≡ true
+    → set cells cell (getD cells cell nan ⊕ area) ≡ addOf cells cell area
 unfolding addOf
 add-in cells cell area h n = simp (lt-ltb _ _ h, n)
 
@@ -73,7 +74,8 @@ evenly-split zero m cells from area =
 evenly-split (suc n) m cells from area =
     let e : from + 1 + n ≡ from + suc n = omega arith in
     let s : suc n + m ≡ suc (n + m) = omega arith in
-    rw s (evenly-split n m (addOf cells from area) (from + 1) area ∙ ap (λ (k : ℕ). evenlyOf m (evenlyOf n (addOf cells from area) (from + 1) area) k area) e)
+    let more = addOf cells from area in
+    rw s (evenly-split n m more (from + 1) area ∙ ap (λ (k : ℕ). evenlyOf m (evenlyOf n more (from + 1) area) k area) e)
 
 evenly-length : (n : ℕ) (cells : Cells) (from : ℕ) (area : Float) → length (evenlyOf n cells from area) ≡ length cells
 unfolding evenlyOf
@@ -93,23 +95,29 @@ evenly-in (suc n) cells from area h z =
     let opened : drop from cells ≡ getD cells from nan ∷ rest = drop-cons cells from nan (omega arith) in
     rw (own, add-one)
     (evenly-in n (set cells from v) (suc from) area (rw length-set (omega arith)) z
-    ∙ rw (take-suc-set cells from v (omega arith), drop-set-lt (suc from) cells from v (omega arith), opened) (append-assoc (take from cells) (v ∷ []) (map f (take n rest) ++ drop n rest)))
+    ∙ rw (take-suc-set cells from v (omega arith), drop-set-lt (suc from) cells from v (omega arith), opened)
+    (append-assoc (take from cells) (v ∷ []) (map f (take n rest) ++ drop n rest)))
 
 module _ (cells : Cells) (from to : ℕ) (area : Float) where
   abbrev end : ℕ
   end = min to (length cells)
 
-  pub evenly-run : from < end → ne area f0 ≡ true → putMid from (end - from) cells (map (λ (x : Float). x ⊕ area) (take (end - from) (drop from cells))) ≡ evenlyOf (to - from) cells from area
+  abbrev raised : ℕ → Cells
+  raised n = putMid from (n - from) cells (map (λ (x : Float). x ⊕ area) (take (n - from) (drop from cells)))
+
+  pub evenly-run : {n : ℕ} → n ≡ end → from < n → ne area f0 ≡ true → raised n ≡ evenlyOf (to - from) cells from area
   unfolding evenlyOf
-  evenly-run h z =
-      let s : to - from ≡ (end - from) + (to - end) = omega arith in
-      let a : from + (end - from) ≡ end = omega arith in
-      sym (evenly-in (end - from) cells from area (omega arith) z)
-      ∙ sym (ap (λ (n : ℕ). evenlyOf n cells from area) s ∙ evenly-split (end - from) (to - end) cells from area ∙ past (decLt to (length cells)))
+  evenly-run {n} e h z =
+      let s : to - from ≡ (n - from) + (to - n) = omega arith in
+      sym (evenly-in (n - from) cells from area (omega arith) z)
+      ∙ sym (ap (λ (k : ℕ). evenlyOf k cells from area) s ∙ evenly-split (n - from) (to - n) cells from area ∙ past (decLt to (length cells)))
     where
-      past : Dec (to < length cells) → evenlyOf (to - end) (evenlyOf (end - from) cells from area) (from + (end - from)) area ≡ evenlyOf (end - from) cells from area
-      past (yes p) = let e : to - end ≡ 0 = omega arith in rw e refl
-      past (no p) = evenly-out (to - end) (evenlyOf (end - from) cells from area) (from + (end - from)) area (omega (arith, evenly-length (end - from) cells from area))
+      within : Cells
+      within = evenlyOf (n - from) cells from area
+
+      past : Dec (to < length cells) → evenlyOf (to - n) within (from + (n - from)) area ≡ within
+      past (yes p) = let e : to - n ≡ 0 = omega arith in rw e refl
+      past (no p) = evenly-out (to - n) within (from + (n - from)) area (omega (arith, evenly-length (n - from) cells from area))
 
   pub evenly-zero : ne area f0 ≡ false → cells ≡ evenlyOf (to - from) cells from area
   evenly-zero z = sym (evenly-none (to - from) cells from area z)
@@ -123,20 +131,26 @@ module _ (cells : Cells) (from to : ℕ) (area : Float) where
       go (no p) = sym (evenly-out (to - from) cells from area (omega arith))
 
 -- a part that is replaced leaves the cells before and behind it
-pub part-apart : (cells ys : Cells) (from n c : ℕ) → from + n ≤ length cells → length ys ≡ n → (c < from) ⊎ (from + n ≤ c) → getD (putMid from n cells ys) c nan ≡ getD cells c nan
-part-apart cells ys from n c h l (inl p) =
-    lib.ListN.List·getD-append (take from cells) (ys ++ drop n (drop from cells)) nan c (rw (length-take-le from cells (omega arith)) p) ∙ getD-take from cells c nan p
-part-apart cells ys from n c h l (inr p) =
-    let k : ℕ = c - (from + n) in
-    let t : length (take from cells) ≡ from = length-take-le from cells (omega arith) in
-    let a : c ≡ length (take from cells) + (length ys + k) = omega arith in
-    let b : from + (n + k) ≡ c = omega arith in
-    ap (λ (j : ℕ). getD (putMid from n cells ys) j nan) a
-    ∙ getD-append-add (take from cells) (ys ++ drop n (drop from cells)) (length ys + k) nan
-    ∙ getD-append-add ys (drop n (drop from cells)) k nan
-    ∙ getD-drop n (drop from cells) k nan
-    ∙ getD-drop from cells (n + k) nan
-    ∙ ap (λ (j : ℕ). getD cells j nan) b
+pub part-apart : (cells ys : Cells) (from to : ℕ) → from ≤ to → to ≤ length cells → length ys ≡ to - from
+    → (c : ℕ) → (c < from) ⊎ (to ≤ c) → getD (putMid from (to - from) cells ys) c nan ≡ getD cells c nan
+part-apart cells ys from to o h l c side = go side
+  where
+    behind : Cells
+    behind = drop (to - from) (drop from cells)
+
+    front : length (take from cells) ≡ from
+    front = length-take-le from cells (omega arith)
+
+    go : (c < from) ⊎ (to ≤ c) → getD (putMid from (to - from) cells ys) c nan ≡ getD cells c nan
+    go (inl p) = List·getD-append (take from cells) (ys ++ behind) nan c (rw front p) ∙ getD-take from cells c nan p
+    go (inr p) =
+        let k : ℕ = c - to in
+        let t = front in
+        let a : c ≡ length (take from cells) + (length ys + k) = omega arith in
+        let b : from + (to - from + k) ≡ c = omega arith in
+        ap (λ (j : ℕ). getD (putMid from (to - from) cells ys) j nan) a
+        ∙ getD-append-add (take from cells) (ys ++ behind) (length ys + k) nan ∙ getD-append-add ys behind k nan
+        ∙ getD-drop (to - from) (drop from cells) k nan ∙ getD-drop from cells (to - from + k) nan ∙ ap (λ (j : ℕ). getD cells j nan) b
 
 -- ---- columns
 
@@ -150,22 +164,47 @@ ceil-le x = go (lt (ofWhole (columnOf x)) x) (columnOf x) (toUnsigned-lt 13 x)
 
 -- ---- what the calls of a piece come to
 
-module _ (cells c₁ c₂ c₃ : Cells) (lo hi : Float) (cell last : ℕ) (area x y : Float) (ex : x ≡ ofWhole cell) (ey : y ≡ ofWhole last) where
-  abbrev perCell : Float
-  perCell = f1 ⊘ (hi ⊖ lo)
+pub single-is : (cells : Cells) (cell : ℕ) (middle area : Float) {c₁ c₂ : Cells} → c₁ ≡ addOf cells cell (area ⊗ (f1 ⊖ middle))
+    → c₂ ≡ addOf c₁ (cell + 1) (area ⊗ middle) → c₂ ≡ singleOf cells cell middle area
+unfolding singleOf
+single-is cells cell middle area p q = rw p at q
 
-  abbrev head : Float → Float
-  head u = f½ ⊗ perCell ⊗ (f1 ⊖ (lo ⊖ u)) ⊗ (f1 ⊖ (lo ⊖ u))
+module _ (cells : Cells) (cell last : ℕ) (area perCell enters head tail : Float) where
+  abbrev second : Float
+  second = perCell ⊗ (enters ⊕ f½)
 
-  abbrev tail : Float → Float
-  tail v = f½ ⊗ perCell ⊗ (hi ⊖ (v ⊖ f1)) ⊗ (hi ⊖ (v ⊖ f1))
+  pub between-one : {c₁ : Cells} → last ≡ cell + 2 → c₁ ≡ addOf cells (cell + 1) (area ⊗ (f1 ⊖ head ⊖ tail))
+      → c₁ ≡ betweenOf cells cell last area perCell enters head tail
+  unfolding betweenOf
+  between-one h p = rw (eq-eqb last (cell + 2) h) p
 
-  pub across-is : c₁ ≡ addOf cells cell (area ⊗ head x) → c₂ ≡ betweenOf c₁ cell last area perCell (f1 ⊖ (lo ⊖ x)) (head x) (tail y) → c₃ ≡ addOf c₂ last (area ⊗ tail y)
+  pub between-more : {c₁ c₂ c₃ : Cells} {x : Float} → (last ≡ cell + 2 → ⊥) → c₁ ≡ addOf cells (cell + 1) (area ⊗ (second ⊖ head))
+      → c₂ ≡ evenlyOf (last - 1 - (cell + 2)) c₁ (cell + 2) (area ⊗ perCell) → x ≡ ofWhole (last - cell - 3)
+      → c₃ ≡ addOf c₂ (last - 1) (area ⊗ (f1 ⊖ (second ⊕ x ⊗ perCell) ⊖ tail)) → c₃ ≡ betweenOf cells cell last area perCell enters head tail
+  unfolding betweenOf
+  between-more h p q ex r = rw (ne-eqb last (cell + 2) h) (rw (q, p, ex) at r)
+
+module _ (cells : Cells) (lo hi : Float) (cell last : ℕ) (area : Float) {x y : Float} (ex : x ≡ ofWhole cell) (ey : y ≡ ofWhole last) where
+  abbrev per : Float
+  per = f1 ⊘ (hi ⊖ lo)
+
+  abbrev enters : Float
+  enters = f1 ⊖ (lo ⊖ x)
+
+  abbrev leaves : Float
+  leaves = hi ⊖ (y ⊖ f1)
+
+  abbrev head : Float
+  head = f½ ⊗ per ⊗ enters ⊗ enters
+
+  abbrev tail : Float
+  tail = f½ ⊗ per ⊗ leaves ⊗ leaves
+
+  pub across-is : {c₁ c₂ c₃ : Cells} → c₁ ≡ addOf cells cell (area ⊗ head) → c₂ ≡ betweenOf c₁ cell last area per enters head tail
+      → c₃ ≡ addOf c₂ last (area ⊗ tail)
       → c₃ ≡ acrossOf cells lo hi cell last area
   unfolding acrossOf
-  across-is p q r =
-      r ∙ ap (λ (c : Cells). addOf c last (area ⊗ tail y)) (q ∙ ap (λ (c : Cells). betweenOf c cell last area perCell (f1 ⊖ (lo ⊖ x)) (head x) (tail y)) p)
-      ∙ ap₂ (λ (u v : Float). addOf (betweenOf (addOf cells cell (area ⊗ head u)) cell last area perCell (f1 ⊖ (lo ⊖ u)) (head u) (tail v)) last (area ⊗ tail v)) ex ey
+  across-is p q r = rw (q, p, ex, ey) at r
 
 pub pick-true : {A : Type 0} (b : Bool) (x y : A) → b ≡ true → x ≡ cond b x y
 pick-true b x y h = rw h refl
@@ -173,17 +212,16 @@ pick-true b x y h = rw h refl
 pub pick-false : {A : Type 0} (b : Bool) (x y : A) → b ≡ false → y ≡ cond b x y
 pick-false b x y h = rw h refl
 
-pub inside-single : (cells after : Cells) (lo hi area x : Float) (cell last : ℕ) → cell ≡ columnOf lo → last ≡ ceilColumn hi → last ≤ cell + 1 → x ≡ ofWhole cell
-    → after ≡ singleOf cells cell (f½ ⊗ (lo ⊕ hi) ⊖ x) area → after ≡ insideOf cells lo hi area
-unfolding insideOf
-inside-single cells after lo hi area x cell last ec el h ex e =
-    e ∙ ap (λ (u : Float). singleOf cells cell (f½ ⊗ (lo ⊕ hi) ⊖ u) area) ex
-    ∙ ap (λ (n : ℕ). singleOf cells n (f½ ⊗ (lo ⊕ hi) ⊖ ofWhole n) area) ec
-    ∙ pick-true (leb (ceilColumn hi) (columnOf lo + 1)) _ (acrossOf cells lo hi (columnOf lo) (ceilColumn hi) area) (ap₂ (λ (n m : ℕ). leb n (m + 1)) (sym el) (sym ec) ∙ le-leb last (cell + 1) h)
+module _ (cells : Cells) (lo hi area : Float) {after : Cells} {cell last : ℕ} (ec : cell ≡ columnOf lo) (el : last ≡ ceilColumn hi) where
+  pub inside-single : last ≤ cell + 1 → {x : Float} → x ≡ ofWhole cell → after ≡ singleOf cells cell (f½ ⊗ (lo ⊕ hi) ⊖ x) area
+      → after ≡ insideOf cells lo hi area
+  unfolding insideOf
+  inside-single h ex e =
+      let t : leb (ceilColumn hi) (columnOf lo + 1) ≡ true = rw (← el, ← ec) (le-leb last (cell + 1) h) in
+      rw t (rw (ex, ec) at e)
 
-pub inside-across : (cells after : Cells) (lo hi area : Float) (cell last : ℕ) → cell ≡ columnOf lo → last ≡ ceilColumn hi → cell + 1 < last
-    → after ≡ acrossOf cells lo hi cell last area → after ≡ insideOf cells lo hi area
-unfolding insideOf
-inside-across cells after lo hi area cell last ec el h e =
-    e ∙ ap₂ (λ (n m : ℕ). acrossOf cells lo hi n m area) ec el
-    ∙ pick-false (leb (ceilColumn hi) (columnOf lo + 1)) (singleOf cells (columnOf lo) (f½ ⊗ (lo ⊕ hi) ⊖ ofWhole (columnOf lo)) area) _ (ap₂ (λ (n m : ℕ). leb n (m + 1)) (sym el) (sym ec) ∙ lt-leb last (cell + 1) h)
+  pub inside-across : cell + 1 < last → after ≡ acrossOf cells lo hi cell last area → after ≡ insideOf cells lo hi area
+  unfolding insideOf
+  inside-across h e =
+      let t : leb (ceilColumn hi) (columnOf lo + 1) ≡ false = rw (← el, ← ec) (lt-leb last (cell + 1) h) in
+      rw t (rw (ec, el) at e)

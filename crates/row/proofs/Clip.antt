@@ -1,4 +1,5 @@
--- How many ends of a piece lie outside the row, and that one fewer does once an end is clipped: so three calls of `span` are enough for every piece. Assumes nothing.
+-- How many ends of a piece lie outside the row, and that one fewer does once an end is clipped: so three calls of
+-- `span` are enough for every piece. Assumes nothing.
 use mathlib.Core.Path.{_≡_, refl, sym, ap, ap₂, _∙_}
 use mathlib.Core.Bool.{Bool, true, false, cond, _||_}
 use Prim.Native.Nat.{ℕ, zero, suc, _+_, _-_, _*_, _/_, _%_, _^_, _<_, _≤_, compare}
@@ -14,7 +15,7 @@ use Rattle.float.specs.Ops.{f0, f1, _⊖_, _⊗_, _⊘_}
 use Rattle.float.specs.Whole.{ofWhole}
 use Rattle.row.specs.Row.{Cells, addOf, insideOf, clipOf, leftEnd, rightEnd, spanBy, spanOf}
 use Rattle.row.specs.Laws.{ThreeAreEnough}
-use Rattle.row.proofs.Adding.{length-add, pick-true, pick-false}
+use Rattle.row.proofs.Adding.{length-add}
 
 -- ---- floats
 
@@ -112,7 +113,8 @@ outside-le w xa xb = let a = out-le w xa in let b = out-le w xb in omega arith
 -- ---- what is clipped once is clipped as often as need be
 
 module _ (R S : Cells → Float → Float → Float → Cells) (cells : Cells) (lo hi a : Float)
-    (same : (l : Cells) (xa xb b : Float) → length l ≡ length cells → outside (length cells) xa xb < outside (length cells) lo hi → R l xa xb b ≡ S l xa xb b) where
+    (same : (l : Cells) (xa xb b : Float) → length l ≡ length cells
+    → outside (length cells) xa xb < outside (length cells) lo hi → R l xa xb b ≡ S l xa xb b) where
   clip-same : clipOf R cells lo hi a ≡ clipOf S cells lo hi a
   unfolding clipOf
   clip-same = go (le width lo) (le hi f0) (lt lo f0) (lt width hi) refl refl
@@ -138,7 +140,8 @@ module _ (R S : Cells → Float → Float → Float → Cells) (cells : Cells) (
       go false false false true e f = same cells lo width part refl (right-falls (length cells) lo hi f)
       go false false false false e f = refl
 
-enough : (n m : ℕ) (cells : Cells) (xa xb a : Float) → outside (length cells) xa xb < n → outside (length cells) xa xb < m → spanBy n cells xa xb a ≡ spanBy m cells xa xb a
+enough : (n m : ℕ) (cells : Cells) (xa xb a : Float) → outside (length cells) xa xb < n → outside (length cells) xa xb < m
+    → spanBy n cells xa xb a ≡ spanBy m cells xa xb a
 unfolding spanBy
 enough zero m cells xa xb a h g = absurd (omega arith)
 enough (suc n) zero cells xa xb a h g = absurd (omega arith)
@@ -157,55 +160,64 @@ span-again : (cells : Cells) (xa xb a : Float) → spanOf cells xa xb a ≡ clip
 unfolding spanBy
 span-again cells xa xb a = sym (three-are-enough 0 cells xa xb a)
 
--- ---- the five ways that `span` returns, `width`, `lo` and `hi` being its locals
+-- ---- the five ways that `span` returns
 
-module _ (cells : Cells) (xa xb area width lo hi : Float) (w : width ≡ ofWhole (length cells)) (l : lo ≡ leftEnd xa xb) (h : hi ≡ rightEnd xa xb) where
-  abbrev inner : Cells
-  inner = cond (lt lo f0) (spanOf (addOf cells 0 (area ⊗ (lo ⊘ (lo ⊖ hi)))) f0 hi (area ⊗ (f1 ⊖ lo ⊘ (lo ⊖ hi)))) (cond (lt width hi) (spanOf cells lo width (area ⊗ ((width ⊖ lo) ⊘ (hi ⊖ lo)))) (insideOf cells lo hi area))
+-- its locals
+pub record Locals (cells : Cells) (xa xb width lo hi : Float) : Type 0 where
+  pub width-is : width ≡ ofWhole (length cells)
+  pub lo-is : lo ≡ leftEnd xa xb
+  pub hi-is : hi ≡ rightEnd xa xb
 
-  whole : cond (le width lo) cells (cond (le hi f0) (addOf cells 0 area) inner) ≡ spanOf cells xa xb area
-  unfolding clipOf
-  whole =
-      ap (λ (x : Float). cond (le x lo) cells (cond (le hi f0) (addOf cells 0 area) (cond (lt lo f0) (spanOf (addOf cells 0 (area ⊗ (lo ⊘ (lo ⊖ hi)))) f0 hi (area ⊗ (f1 ⊖ lo ⊘ (lo ⊖ hi)))) (cond (lt x hi) (spanOf cells lo x (area ⊗ ((x ⊖ lo) ⊘ (hi ⊖ lo)))) (insideOf cells lo hi area))))) w
-      ∙ ap₂ (λ (x y : Float). clipOf spanOf cells x y area) l h
-      ∙ sym (span-again cells xa xb area)
+module _ {cells : Cells} {xa xb width lo hi : Float} (e : Locals cells xa xb width lo hi) where
+  module _ (area : Float) where
+    abbrev outer : Float
+    outer = lo ⊘ (lo ⊖ hi)
 
-  pub span-past : le width lo ≡ true → cells ≡ spanOf cells xa xb area
-  span-past p = pick-true (le width lo) cells (cond (le hi f0) (addOf cells 0 area) inner) p ∙ whole
+    abbrev cutLeft : Cells → Cells
+    cutLeft next = spanOf next f0 hi (area ⊗ (f1 ⊖ outer))
 
-  module _ (p : le width lo ≡ false) where
-    pub span-before : le hi f0 ≡ true → addOf cells 0 area ≡ spanOf cells xa xb area
-    span-before q = pick-true (le hi f0) (addOf cells 0 area) inner q ∙ pick-false (le width lo) cells (cond (le hi f0) (addOf cells 0 area) inner) p ∙ whole
+    abbrev cutRight : Cells
+    cutRight = spanOf cells lo width (area ⊗ ((width ⊖ lo) ⊘ (hi ⊖ lo)))
 
-    module _ (q : le hi f0 ≡ false) where
-      entered : inner ≡ spanOf cells xa xb area
-      entered = pick-false (le hi f0) (addOf cells 0 area) inner q ∙ pick-false (le width lo) cells (cond (le hi f0) (addOf cells 0 area) inner) p ∙ whole
+    whole : cond (le width lo) cells (cond (le hi f0) (addOf cells 0 area)
+        (cond (lt lo f0) (cutLeft (addOf cells 0 (area ⊗ outer))) (cond (lt width hi) cutRight (insideOf cells lo hi area))))
+        ≡ spanOf cells xa xb area
+    unfolding clipOf
+    whole = rw (e .width-is, e .lo-is, e .hi-is) (sym (span-again cells xa xb area))
 
-      pub span-left : lt lo f0 ≡ true → (next : Cells) → next ≡ addOf cells 0 (area ⊗ (lo ⊘ (lo ⊖ hi))) → spanOf next f0 hi (area ⊗ (f1 ⊖ lo ⊘ (lo ⊖ hi))) ≡ spanOf cells xa xb area
-      span-left r next e = ap (λ (x : Cells). spanOf x f0 hi (area ⊗ (f1 ⊖ lo ⊘ (lo ⊖ hi)))) e ∙ pick-true (lt lo f0) _ _ r ∙ entered
+    pub span-past : le width lo ≡ true → cells ≡ spanOf cells xa xb area
+    span-past p = rw p at whole
 
-      module _ (r : lt lo f0 ≡ false) where
-        pub span-right : lt width hi ≡ true → spanOf cells lo width (area ⊗ ((width ⊖ lo) ⊘ (hi ⊖ lo))) ≡ spanOf cells xa xb area
-        span-right s = pick-true (lt width hi) _ _ s ∙ pick-false (lt lo f0) _ _ r ∙ entered
+    module _ {after : Cells} (p : le width lo ≡ false) where
+      pub span-before : le hi f0 ≡ true → after ≡ addOf cells 0 area → after ≡ spanOf cells xa xb area
+      span-before q h = h ∙ rw (p, q) at whole
 
-        pub span-inside : lt width hi ≡ false → insideOf cells lo hi area ≡ spanOf cells xa xb area
-        span-inside s = pick-false (lt width hi) _ _ s ∙ pick-false (lt lo f0) _ _ r ∙ entered
+      pub span-left : le hi f0 ≡ false → lt lo f0 ≡ true → {next : Cells} → next ≡ addOf cells 0 (area ⊗ outer)
+          → after ≡ cutLeft next → after ≡ spanOf cells xa xb area
+      span-left q r n h = rw n at h ∙ rw (p, q, r) at whole
 
-  -- what is left has one end fewer outside
-  module _ (t : ℕ) (m : outside (length cells) xa xb ≡ t) where
+      pub span-right : le hi f0 ≡ false → lt lo f0 ≡ false → lt width hi ≡ true → after ≡ cutRight → after ≡ spanOf cells xa xb area
+      span-right q r s h = h ∙ rw (p, q, r, s) at whole
+
+      pub span-inside : le hi f0 ≡ false → lt lo f0 ≡ false → lt width hi ≡ false → after ≡ insideOf cells lo hi area
+          → after ≡ spanOf cells xa xb area
+      span-inside q r s h = h ∙ rw (p, q, r, s) at whole
+
+  -- what remains has one end fewer outside
+  module _ {t : ℕ} (m : outside (length cells) xa xb ≡ t) where
     counted : outside (length cells) lo hi ≡ t
-    counted = ap₂ (outside (length cells)) l h ∙ order-outside (length cells) xa xb ∙ m
+    counted = ap₂ (outside (length cells)) (e .lo-is) (e .hi-is) ∙ order-outside (length cells) xa xb ∙ m
 
     pub left-call : (next : Cells) → length next ≡ length cells → lt lo f0 ≡ true → outside (length next) f0 hi < t
-    left-call next e n =
+    left-call next l n =
         let f = left-falls (length cells) lo hi n in
-        let k : outside (length next) f0 hi ≡ outside (length cells) f0 hi = ap (λ (x : ℕ). outside x f0 hi) e in
+        let k : outside (length next) f0 hi ≡ outside (length cells) f0 hi = ap (λ (x : ℕ). outside x f0 hi) l in
         let c = counted in
         omega arith
 
     pub right-call : lt width hi ≡ true → outside (length cells) lo width < t
     right-call n =
-        let f = right-falls (length cells) lo hi (rw w at n) in
-        let k : outside (length cells) lo width ≡ outside (length cells) lo (ofWhole (length cells)) = ap (outside (length cells) lo) w in
+        let f = right-falls (length cells) lo hi (rw (e .width-is) at n) in
+        let k : outside (length cells) lo width ≡ outside (length cells) lo (ofWhole (length cells)) = ap (outside (length cells) lo) (e .width-is) in
         let c = counted in
         omega arith

@@ -1,5 +1,6 @@
--- Why the definitions may cut to columns where the Rust takes floor and ceiling: for a number from 0 on, other than -0, whose column is below 8,191,
--- `x.floor()` is its column as a float, `x.floor() as usize` its column, and `x.ceil() as usize` its ceilColumn. Assumes nothing.
+-- Why the definitions may cut to columns where the Rust takes floor and ceiling: for a number from 0 on, other than
+-- -0, whose column is below 8,191, `x.floor()` is its column as a float, `x.floor() as usize` its column, and
+-- `x.ceil() as usize` its ceilColumn. Assumes nothing.
 use mathlib.Core.Path.{_≡_, refl, sym, ap, _∙_, subst}
 use mathlib.Core.Bool.{Bool, true, false, cond, _||_, _&&_, false≢true}
 use Prim.Native.Nat.{ℕ, zero, suc, _+_, _*_, _/_, _%_, _≤_, _<_}
@@ -57,19 +58,29 @@ module _ (m : ℕ) (e : ℤ) (low : columnOf (fin false m e) < 8191) where
   unfolding integralOf ceilColumn ofInt
   ceil-is = go (m * up e % down e) refl
     where
-      go : (r : ℕ) → m * up e % down e ≡ r → columnOf (ofWhole (cond (eqb (m * up e % down e) 0) whole (whole + 1))) ≡ cond (lt (ofWhole (columnOf x)) x) (columnOf x + 1) (columnOf x)
+      rounded : Bool → ℕ
+      rounded exact = columnOf (ofWhole (cond exact whole (whole + 1)))
+
+      ceiled : Bool → ℕ
+      ceiled more = cond more (columnOf x + 1) (columnOf x)
+
+      less : lt (ofWhole (columnOf x)) x ≡ ltb (whole * down e) (m * up e)
+      less = ap (λ (n : ℕ). lt (ofWhole n) x) column-is ∙ below
+
+      go : (r : ℕ) → m * up e % down e ≡ r → rounded (eqb (m * up e % down e) 0) ≡ ceiled (lt (ofWhole (columnOf x)) x)
       go zero z =
           let c = column-is in
           let l = low in
           let d = div-add-mod' (m * up e) (down e) in
-          let b : lt (ofWhole (columnOf x)) x ≡ false = ap (λ (n : ℕ). lt (ofWhole n) x) c ∙ below ∙ le-ltb (whole * down e) (m * up e) (omega arith) in
-          ap (λ (p : Bool). columnOf (ofWhole (cond p whole (whole + 1)))) (eq-eqb (m * up e % down e) 0 z) ∙ column-back whole (omega arith) ∙ sym c ∙ sym (ap (λ (p : Bool). cond p (columnOf x + 1) (columnOf x)) b)
+          let b = less ∙ le-ltb (whole * down e) (m * up e) (omega arith) in
+          ap rounded (eq-eqb (m * up e % down e) 0 z) ∙ column-back whole (omega arith) ∙ sym c ∙ sym (ap ceiled b)
       go (suc r) z =
           let c = column-is in
           let l = low in
           let d = div-add-mod' (m * up e) (down e) in
-          let b : lt (ofWhole (columnOf x)) x ≡ true = ap (λ (n : ℕ). lt (ofWhole n) x) c ∙ below ∙ lt-ltb (whole * down e) (m * up e) (omega arith) in
-          ap (λ (p : Bool). columnOf (ofWhole (cond p whole (whole + 1)))) (ne-eqb (m * up e % down e) 0 (λ q. omega arith)) ∙ column-back (whole + 1) (omega arith) ∙ sym (ap (λ (p : Bool). cond p (columnOf x + 1) (columnOf x)) b ∙ ap (λ (n : ℕ). n + 1) c)
+          let b = less ∙ lt-ltb (whole * down e) (m * up e) (omega arith) in
+          ap rounded (ne-eqb (m * up e % down e) 0 (λ q. omega arith)) ∙ column-back (whole + 1) (omega arith)
+          ∙ sym (ap ceiled b ∙ ap (λ (n : ℕ). n + 1) c)
 
 pub columns : ColumnsAre
 unfolding le lt eq ofBits toUnsigned
@@ -77,7 +88,8 @@ columns nan h n l = absurd (false≢true h)
 columns (inf true) h n l = absurd (false≢true h)
 columns (inf false) h n l = absurd (omega arith)
 columns (fin true zero e) h n l = absurd (n e refl)
-columns (fin true (suc m) e) h n l = absurd (no (suc m * up e * 1) (0 * 1 * down e) (mul-pos (mul-pos (zero-lt-suc m) (up-pos e)) (zero-lt-suc 0)) (omega arith) h)
+columns (fin true (suc m) e) h n l =
+    absurd (no (suc m * up e * 1) (0 * 1 * down e) (mul-pos (mul-pos (zero-lt-suc m) (up-pos e)) (zero-lt-suc 0)) (omega arith) h)
   where
     no : (a b : ℕ) → 0 < a → b ≡ 0 → (false || (eqb b a && (false || eqb b 0))) ≡ true → ⊥
     no a b p z t = false≢true (sym (ap (λ (q : Bool). q && (false || eqb b 0)) (ne-eqb b a (λ r. omega arith))) ∙ t)

@@ -1,4 +1,5 @@
--- Marks: what `mark` stores, runs of marks one after another, and a row whose cells changed only where they were marked. Assumes nothing.
+-- Marks: what `mark` stores, runs of marks one after another, and a row whose cells changed only where they were
+-- marked. Assumes nothing.
 use mathlib.Core.Path.{_≡_, refl, sym, ap, _∙_}
 use mathlib.Core.Logic.{_≢_, _⊎_, inl, inr}
 use mathlib.Core.List.{List}
@@ -68,11 +69,11 @@ module _ (before : List ℕ) (cell n : ℕ) (some : 0 < n) (one : cell % 64 + n 
 
 -- ---- runs
 
-pub marked-none : (touched : List ℕ) (from : ℕ) → Marked touched touched from from
-marked-none touched from = record { long = refl; own = λ c p q z. omega arith; kept = λ c z. z; summed = λ s. s }
+pub marked-none : {touched : List ℕ} {from : ℕ} → Marked touched touched from from
+marked-none = record { long = refl; own = λ c p q z. omega arith; kept = λ c z. z; summed = λ s. s }
 
-pub marked-more : {a b c : List ℕ} (from at to : ℕ) → Marked a b from at → Marked b c at to → Marked a c from to
-marked-more {a} {b} {c} from at to p q =
+pub marked-more : {a b c : List ℕ} {from at to : ℕ} → Marked a b from at → Marked b c at to → Marked a c from to
+marked-more {c = c} {from} {at} {to} p q =
     record {
       long = q .long ∙ p .long;
       own = λ k l h z. go k l h z (decLt k at);
@@ -87,9 +88,9 @@ marked-more {a} {b} {c} from at to p q =
 -- ---- a row
 
 -- the cells changed only from `from` up to `to`, and those are marked
-pub ready-marked : (cells raised : Cells) (before after : List ℕ) (from to : ℕ) → Ready cells before → Marked before after from to → length raised ≡ length cells
-    → ((c : ℕ) → (c < from) ⊎ (to ≤ c) → getD raised c nan ≡ getD cells c nan) → Ready raised after
-ready-marked cells raised before after from to r m long same =
+pub ready-marked : {cells raised : Cells} {before after : List ℕ} {from to : ℕ} → Ready cells before → Marked before after from to
+    → length raised ≡ length cells → ((c : ℕ) → (c < from) ⊎ (to ≤ c) → getD raised c nan ≡ getD cells c nan) → Ready raised after
+ready-marked {cells} {raised} {after = after} {from} {to} r m long same =
     record {
       narrow = rw long (r .narrow);
       words = rw (m .long, long) (r .words);

@@ -1,4 +1,5 @@
--- Which cells of a row may hold area: `Row::touched` and `Row::words` of coverage.rs, a bit for each cell and before them a bit for each word of those bits. Definitions only.
+-- Which cells of a row may hold area: `Row::touched` and `Row::words` of coverage.rs, a bit for each cell and before
+-- them a bit for each word of those bits. Definitions only.
 --
 --     touched:  [ a bit for each word behind this one ][ a bit for each of 64 cells ][ .. of the next 64 ] ..
 use mathlib.Core.Path.{_≡_}
@@ -8,6 +9,10 @@ use lib.ListN.{length, getD}
 use lib.Ieee.{nan}
 use Rattle.float.specs.Ops.{f0}
 use Rattle.row.specs.Row.{Cells}
+
+-- how many words of marks a row has: one for each 64 of its cells, and the one before them
+abbrev pub markWords : ℕ → ℕ
+markWords width = (width + 63) / 64 + 1
 
 -- the bit at a place of a word
 abbrev pub bitOf : ℕ → ℕ → ℕ
@@ -27,7 +32,7 @@ Summed touched = (word : ℕ) → word < 64 → WordClear touched word → getD 
 -- a row and its marks: a cell whose bit is clear holds 0.0
 pub record Ready (cells : Cells) (touched : List ℕ) : Type 0 where
   pub narrow : length cells ≤ 4096
-  pub words : length touched ≡ (length cells + 63) / 64 + 1
+  pub words : length touched ≡ markWords (length cells)
   pub marked : (cell : ℕ) → cell < length cells → Clear touched cell → getD cells cell nan ≡ f0
   pub summed : Summed touched
 

@@ -1,6 +1,7 @@
--- One row of cells and what an edge's piece adds to it: `Row` of coverage.rs, let by let, over IEEE 754's binary32. Definitions only.
--- For a number from 0 to the width, -0 apart, the Rust's `lo.floor() as usize` is `columnOf lo`, its `lo.floor()` is that column as a float, and
--- `hi.ceil() as usize` is `ceilColumn hi` (`ColumnsAre` in Laws.antt, which says what is with -0).
+-- One row of cells and what an edge's piece adds to it: `Row` of coverage.rs, let by let, over IEEE 754's binary32.
+-- Definitions only. For a number from 0 to the width, -0 apart, the Rust's `lo.floor() as usize` is `columnOf lo`,
+-- its `lo.floor()` is that column as a float, and `hi.ceil() as usize` is `ceilColumn hi` (`ColumnsAre` in Laws.antt,
+-- which says what is with -0).
 use Prim.Native.Nat.{ℕ, zero, suc, _+_, _-_}
 use mathlib.Core.Bool.{cond}
 use mathlib.Core.List.{List}
@@ -40,7 +41,8 @@ betweenOf cells cell last area perCell enters head tail =
     (addOf (evenlyOf (last - 1 - (cell + 2)) (addOf cells (cell + 1) (area ⊗ (second ⊖ head))) (cell + 2) (area ⊗ perCell)) (last - 1)
     (area ⊗ (f1 ⊖ beforeLast ⊖ tail)))
 
--- 'Across cells the edge's height is spread evenly along x: a triangle in the first and the last cell, a trapezoid in between.'
+-- 'Across cells the edge's height is spread evenly along x: a triangle in the first and the last cell, a trapezoid in
+-- between.'
 unfoldable pub acrossOf : Cells → Float → Float → ℕ → ℕ → Float → Cells
 unfolding addOf betweenOf
 acrossOf cells lo hi cell last area =
@@ -63,8 +65,9 @@ insideOf cells lo hi area =
     (singleOf cells (columnOf lo) (f½ ⊗ (lo ⊕ hi) ⊖ ofWhole (columnOf lo)) area)
     (acrossOf cells lo hi (columnOf lo) (ceilColumn hi) area)
 
--- A piece from lo to hi, `onward` being `span` for what is left once an end is cut off at the row's side (document 01: it 'clips an end and calls itself with one
--- end fewer outside'). 'What lies left of the mask counts for every cell of the row, what lies right of it for none.'
+-- A piece from lo to hi, `onward` being `span` for what is left once an end is cut off at the row's side (document
+-- 01: it 'clips an end and calls itself with one end fewer outside'). 'What lies left of the mask counts for every
+-- cell of the row, what lies right of it for none.'
 unfoldable pub clipOf : (Cells → Float → Float → Float → Cells) → Cells → Float → Float → Float → Cells
 unfolding addOf insideOf
 clipOf onward cells lo hi area =
@@ -84,8 +87,9 @@ leftEnd xa xb = cond (le xa xb) xa xb
 abbrev pub rightEnd : Float → Float → Float
 rightEnd xa xb = cond (le xa xb) xb xa
 
--- `Row::span`, of at most n calls of itself: the piece of an edge from xa at its top to xb at its bottom, `area` the height that it spans, signed.
--- Two ends can be cut off, so 3 calls are enough for every piece (`ThreeAreEnough` in Laws.antt)
+-- `Row::span`, of at most n calls of itself: the piece of an edge from xa at its top to xb at its bottom, `area` the
+-- height that it spans, signed. Two ends can be cut off, so 3 calls are enough for every piece (`ThreeAreEnough` in
+-- Laws.antt)
 unfoldable pub spanBy : ℕ → Cells → Float → Float → Float → Cells
 unfolding clipOf
 spanBy zero cells xa xb area = cells

@@ -6,9 +6,17 @@ ghost use lib.ListN.{length};
 ghost use lib.Ieee.{Float};
 ghost use Rattle.float.specs.Ops.{_⊕_};
 ghost use Rattle.row.specs.Row.{addOf, evenlyOf, singleOf, betweenOf, acrossOf, ceilColumn, insideOf, leftEnd, rightEnd, spanOf};
-ghost use Rattle.row.specs.Marks.{Ready, Marked};
+ghost use Rattle.row.specs.Marks.{markWords, Ready, Marked};
 
 // ---- marks
+
+// How many words of marks a row of `width` cells has.
+pub fn mark_words(width: usize) -> usize
+    requires { ⌜ width ≤ 4096 ⌝ }
+    ensures { λ r. ⌜ r ≡ markWords width ⌝ }
+{
+    (width + 63) / 64 + 1
+}
 
 fn least(a: usize, b: usize) -> usize
     ensures { λ r. ⌜ r ≡ min a b ⌝ }

@@ -1,31 +1,36 @@
--- A loop that asks a test of each number below n, over any test. Assumes nothing.
+-- A loop that asks a test of each number below n, over any test: what it knows at number i, and what it answers.
+-- Assumes nothing.
 use mathlib.Core.Path.{_≡_, refl, sym}
 use mathlib.Core.Bool.{Bool, true, false, _&&_}
-use Prim.Native.Nat.{ℕ, suc, _+_, _<_}
+use Prim.Native.Nat.{ℕ, _+_, _≤_, _<_}
 use native.Mathlib.Decide.{le-ind}
+use native.Mathlib.Nat.{le-antisymm}
 use native.Mathlib.Numerals.{add-one}
-use Rattle.shape.specs.Coverage.{allBelow}
+use native.Mathlib.Omega.{arith}
+use Rattle.shape.specs.Outline.{allBelow}
 
-module _ (test : ℕ → Bool) where
-  pub none-yet : allBelow test 0 ≡ true
-  unfolding allBelow
-  none-yet = refl
+-- each number below i passed
+pub record Passed (test : ℕ → Bool) (n i : ℕ) : Type 0 where
+  pub most : i ≤ n
+  pub all : allBelow test i ≡ true
 
-  pub one-more : (i : ℕ) → test i ≡ true → allBelow test i ≡ true → allBelow test (i + 1) ≡ true
-  unfolding allBelow
-  one-more i h l = rw (add-one i, l, h)
+pub none-yet : {test : ℕ → Bool} {n : ℕ} → Passed test n 0
+unfolding allBelow
+none-yet = record { most = omega arith; all = refl }
 
-  fails : (i : ℕ) → test i ≡ false → allBelow test (suc i) ≡ false
-  unfolding allBelow
-  fails i h = rw h (and-false (allBelow test i))
-    where
-      and-false : (a : Bool) → a && false ≡ false
-      and-false true = refl
-      and-false false = refl
+pub one-more : {test : ℕ → Bool} {n i : ℕ} → Passed test n i → i < n → test i ≡ true → Passed test n (i + 1)
+unfolding allBelow
+one-more {test} {n} {i} p l h = record { most = omega arith; all = rw (add-one i, p .all, h) }
 
-  stays : (i : ℕ) → allBelow test i ≡ false → allBelow test (suc i) ≡ false
-  unfolding allBelow
-  stays i h = rw h
+-- a number that fails
+pub one-out : {test : ℕ → Bool} {n i : ℕ} → Passed test n i → i < n → test i ≡ false → false ≡ allBelow test n
+unfolding allBelow
+one-out {test} {n} {i} p l h = sym (le-ind (λ (m : ℕ). allBelow test m ≡ false) (fails (allBelow test i)) (λ m k q. rw q) n l)
+  where
+    fails : (a : Bool) → a && test i ≡ false
+    fails true = h
+    fails false = refl
 
-  pub one-out : (i n : ℕ) → i < n → test i ≡ false → false ≡ allBelow test n
-  one-out i n l h = sym (le-ind (λ (m : ℕ). allBelow test m ≡ false) (fails i h) (λ m k q. stays m q) n l)
+-- the end
+pub all-passed : {test : ℕ → Bool} {n i : ℕ} → Passed test n i → n ≤ i → true ≡ allBelow test n
+all-passed p l = sym (rw (le-antisymm (p .most) l) at (p .all))

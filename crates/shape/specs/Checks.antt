@@ -5,11 +5,12 @@ use lib.Ieee.Scale.{finite}
 use Rattle.float.specs.Ops.{f0}
 use Rattle.float.specs.Simple.{absOf}
 use Rattle.fault.specs.declared.Fault.the-variants as fault
+use Rattle.fault.specs.declared.Check.{Check}
+use Rattle.fault.specs.declared.Check.the-variants as check
+use Rattle.fault.specs.Check.{unlessOf}
 use Rattle.geometry.specs.declared.Transform2D.{Transform2D}
 use Rattle.geometry.specs.declared.Position.{Position}
 use Rattle.shape.specs.declared.RoundedBox.{RoundedBox}
-use Rattle.shape.specs.declared.Check.{Check}
-use Rattle.shape.specs.declared.Check.the-variants as check
 use Rattle.shape.specs.Limits.{largestNumber}
 
 -- Document 01, number 1: a number 'is not finite, or its size is over 2^20'
@@ -38,7 +39,7 @@ boxCheckOf b = cond (boxInRangeOf b) (cond (improperOf b) (check.Refused fault.I
 
 -- Document 01: '1 for a lone frame, fringe and point'
 abbrev pub numbersCheckOf : Bool → Check
-numbersCheckOf good = cond good check.Pass (check.Refused fault.NumberOutOfRange)
+numbersCheckOf good = unlessOf good fault.NumberOutOfRange
 
 abbrev pub frameCheckOf : Transform2D → Check
 frameCheckOf t = numbersCheckOf (frameInRangeOf t)
@@ -48,9 +49,3 @@ fringeCheckOf fringe = numbersCheckOf (inRangeOf fringe)
 
 abbrev pub pointCheckOf : Position → Check
 pointCheckOf p = numbersCheckOf (bothInRangeOf (p .x) (p .y))
-
--- the first of two checks that refuses
-infixl 5 _andThen_
-abbrev pub _andThen_ : Check → Check → Check
-check.Pass andThen next = next
-check.Refused f andThen next = check.Refused f

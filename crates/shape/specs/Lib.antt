@@ -1,7 +1,6 @@
--- Limits: the fixed numbers. Checks: what is refused. Coverage: a box as a draw takes it, and the distance from its edge. Beside: two boxes with parallel sides.
+-- Limits: the fixed numbers. Checks: what is refused. Outline: a box carried along, its corners and its outline.
 -- Calls: the public calls.
 pub mod Limits
 pub mod Checks
-pub mod Coverage
-pub mod Beside
+pub mod Outline
 pub mod Calls

@@ -1,4 +1,5 @@
--- What the proofs of several functions cite.
+-- Winding: a running sum is never -0 (specs/Laws.antt). Lowest: a word without its lowest bit. Runs: a row summed in
+-- runs. Words: the touched cells, by the words of marks.
 pub mod Winding
 pub mod Lowest
 pub mod Runs

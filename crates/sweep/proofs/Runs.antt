@@ -1,4 +1,5 @@
--- A row that is summed in runs: cells that hold 0.0 get the byte of the winding before them, and a touched cell that of its own. Assumes nothing.
+-- A row that is summed in runs: cells that hold 0.0 get the byte of the winding before them, and a touched cell that
+-- of its own. Assumes nothing.
 use mathlib.Core.Path.{_≡_, refl, sym, ap, _∙_}
 use mathlib.Core.Bool.{Bool, true, false}
 use mathlib.Core.List.{List, [], _∷_, _++_, map, append-assoc, append-nil}
@@ -14,7 +15,7 @@ use lib.Ieee.{Float, nan, binary32, fits, eq, lt, isNan, rem, mul, add, sub, sum
 use Rattle.float.specs.Ops.{f0, _⊕_}
 use Rattle.float.specs.Simple.{absOf, minOf}
 use Rattle.row.specs.Row.{Cells}
-use Rattle.row.specs.Sweep.{shareOf, coveredOf, bytesOf, addBytes}
+use Rattle.sweep.specs.Bytes.{shareOf, coveredOf, bytesOf, addBytes}
 use Rattle.sweep.specs.declared.Run.{Run}
 use Rattle.sweep.specs.Sweeping.{plusOf, filledOf, Blank, lineFrom, Steady, Reached, Moved}
 use Rattle.sweep.proofs.Winding.{steady-zero, steady-more}
@@ -66,50 +67,61 @@ covered-zero false = refl
 abbrev lineAt : Bool → ℕ → Float → List ℕ → Cells → List ℕ
 lineAt e k w line cells = take k line ++ addBytes (drop k line) (bytesOf e w (drop k cells))
 
-module _ (e : Bool) (line : List ℕ) (cells : Cells) (same : length line ≡ length cells) (w : Float) where
-  -- past a run
-  module _ (from to : ℕ) (h : from ≤ to) (g : to ≤ length line) (s : Steady w) (z : Blank cells from to) where
-    abbrev byte : ℕ
-    byte = coveredOf e w
+-- past a run
+module _ {e : Bool} {line : List ℕ} {cells : Cells} {run : Run} (r : Reached e line cells run)
+    (to : ℕ) (h : run .from ≤ to) (g : to ≤ length line) (z : Blank cells (run .from) to) where
+  abbrev from : ℕ
+  from = run .from
 
-    abbrev part : List ℕ
-    part = map (plusOf byte) (take (to - from) (drop from line))
+  abbrev byte : ℕ
+  byte = coveredOf e (run .winding)
 
-    front : length (take from line ++ part) ≡ to
-    front = simp (length-append, length-map, length-take, length-drop) (omega arith)
+  abbrev part : List ℕ
+  part = map (plusOf byte) (take (to - from) (drop from line))
 
-    past-run : lineAt e from w line cells ≡ lineAt e to w (filledOf from to byte line) cells
-    past-run =
-        let m : ℕ = to - from in
-        let b : from + (to - from) ≡ to = omega arith in
-        let d : to - from ≤ length (drop from line) = simp length-drop (omega arith) in
-        let c : drop from cells ≡ replicate (to - from) f0 ++ drop to cells =
-        zeros (to - from) from cells (omega arith) (λ i p q l. z i p (omega arith) l) ∙ ap (λ (j : ℕ). replicate (to - from) f0 ++ drop j cells) b in
-        let t : take to (filledOf from to byte line) ≡ take from line ++ part =
-        ap (take to) (sym (append-assoc (take from line) part (drop (to - from) (drop from line)))) ∙ take-at (take from line ++ part) (drop (to - from) (drop from line)) to front in
-        let u : drop to (filledOf from to byte line) ≡ drop (to - from) (drop from line) =
-        ap (drop to) (sym (append-assoc (take from line) part (drop (to - from) (drop from line)))) ∙ drop-at (take from line ++ part) (drop (to - from) (drop from line)) to front in
-        ap (λ (r : Cells). take from line ++ addBytes (drop from line) (bytesOf e w r)) c
-        ∙ ap (λ (r : List ℕ). take from line ++ addBytes (drop from line) r) (bytes-zeros e w (to - from) (drop to cells) s)
-        ∙ ap (λ (r : List ℕ). take from line ++ r) (add-run (to - from) byte (bytesOf e w (drop to cells)) (drop from line) d)
-        ∙ sym (append-assoc (take from line) part (addBytes (drop (to - from) (drop from line)) (bytesOf e w (drop to cells))))
-        ∙ sym (rw (t, u) refl)
+  abbrev behind : List ℕ
+  behind = drop (to - from) (drop from line)
 
-    filled-length : length (filledOf from to byte line) ≡ length line
-    filled-length = simp (length-append, length-map, length-take, length-drop) (omega arith)
+  front : length (take from line ++ part) ≡ to
+  front = simp (length-append, length-map, length-take, length-drop) (omega arith)
 
-  -- past a touched cell
-  module _ (cell : ℕ) (h : cell < length line) where
-    abbrev next : Float
-    next = w ⊕ getD cells cell nan
+  blank : drop from cells ≡ replicate (to - from) f0 ++ drop to cells
+  blank =
+      let s = r .same in
+      let b : from + (to - from) ≡ to = omega arith in
+      zeros (to - from) from cells (omega arith) (λ i p q l. z i p (omega arith) l) ∙ ap (λ (j : ℕ). replicate (to - from) f0 ++ drop j cells) b
 
-    past-cell : lineAt e cell w line cells ≡ lineAt e (cell + 1) next (set line cell (plusOf (coveredOf e next) (getD line cell 0))) (set cells cell f0)
-    unfolding bytesOf addBytes
-    past-cell =
-        let v : ℕ = plusOf (coveredOf e next) (getD line cell 0) in
-        let more : List ℕ = addBytes (drop (suc cell) line) (bytesOf e next (drop (suc cell) cells)) in
-        rw (add-one, drop-cons line cell 0 h, drop-cons cells cell nan (omega arith), take-suc-set line cell v h, drop-set-lt (suc cell) line cell v (omega arith), drop-set-lt (suc cell) cells cell f0 (omega arith))
-        (sym (append-assoc (take cell line) (v ∷ []) more))
+  filled : filledOf from to (run .coverage) line ≡ (take from line ++ part) ++ behind
+  filled = rw (r .byte) (sym (append-assoc (take from line) part behind))
+
+  past-run : lineFrom e line cells run ≡ lineAt e to (run .winding) (filledOf from to (run .coverage) line) cells
+  past-run =
+      let d : to - from ≤ length (drop from line) = simp length-drop (omega arith) in
+      let bytes = bytesOf e (run .winding) (drop to cells) in
+      ap (λ (r : Cells). take from line ++ addBytes (drop from line) (bytesOf e (run .winding) r)) blank
+      ∙ ap (λ (r : List ℕ). take from line ++ addBytes (drop from line) r) (bytes-zeros e (run .winding) (to - from) (drop to cells) (r .steady))
+      ∙ ap (λ (r : List ℕ). take from line ++ r) (add-run (to - from) byte bytes (drop from line) d)
+      ∙ sym (append-assoc (take from line) part (addBytes behind bytes))
+      ∙ sym (rw (filled, take-at (take from line ++ part) behind to front, drop-at (take from line ++ part) behind to front) refl)
+
+  filled-length : length (filledOf from to (run .coverage) line) ≡ length line
+  filled-length = simp (length-append, length-map, length-take, length-drop) (omega arith)
+
+-- past a touched cell
+module _ (e : Bool) (line : List ℕ) (cells : Cells) (same : length line ≡ length cells) (w : Float) (cell : ℕ) (h : cell < length line) where
+  abbrev next : Float
+  next = w ⊕ getD cells cell nan
+
+  abbrev more : ℕ
+  more = plusOf (coveredOf e next) (getD line cell 0)
+
+  past-cell : lineAt e cell w line cells ≡ lineAt e (cell + 1) next (set line cell more) (set cells cell f0)
+  unfolding bytesOf addBytes
+  past-cell =
+      let others : List ℕ = addBytes (drop (suc cell) line) (bytesOf e next (drop (suc cell) cells)) in
+      rw (add-one, drop-cons line cell 0 h, drop-cons cells cell nan (omega arith), take-suc-set line cell more h)
+      (rw (drop-set-lt (suc cell) line cell more (omega arith), drop-set-lt (suc cell) cells cell f0 (omega arith))
+      (sym (append-assoc (take cell line) (more ∷ []) others)))
 
 finished : (e : Bool) (k : ℕ) (line : List ℕ) (cells : Cells) (w : Float) → length line ≤ k → lineAt e k w line cells ≡ line
 unfolding addBytes
@@ -117,41 +129,49 @@ finished e k line cells w h = rw (drop-of-length-le line h, take-all k line h) (
 
 -- ---- a run and the touched cell behind it
 
-module _ (e : Bool) (line : List ℕ) (cells : Cells) (run : Run) (r : Reached e line cells run) (cell : ℕ) (h : run .from ≤ cell) (g : cell < length cells) (z : Blank cells (run .from) cell) where
+module _ {e : Bool} {line : List ℕ} {cells : Cells} {run : Run} (r : Reached e line cells run)
+    (cell : ℕ) (h : run .from ≤ cell) (g : cell < length cells) (z : Blank cells (run .from) cell)
+    {filled : List ℕ} (is : filled ≡ filledOf (run .from) cell (run .coverage) line) where
   abbrev winding : Float
   winding = run .winding ⊕ getD cells cell nan
 
-  module _ (filled : List ℕ) (is : filled ≡ filledOf (run .from) cell (run .coverage) line) where
-    filled-is : filled ≡ filledOf (run .from) cell (coveredOf e (run .winding)) line
-    filled-is = is ∙ ap (λ (b : ℕ). filledOf (run .from) cell b line) (r .byte)
+  in-line : cell ≤ length line
+  in-line = let s = r .same in omega arith
 
-    in-line : cell ≤ length line
-    in-line = let s = r .same in omega arith
+  pub cell-in-line : length filled ≡ length cells
+  cell-in-line = ap length is ∙ filled-length r cell h in-line z ∙ r .same
 
-    pub cell-in-line : length filled ≡ length cells
-    cell-in-line = ap length filled-is ∙ filled-length e line cells (r .same) (run .winding) (run .from) cell h in-line (r .steady) z ∙ r .same
-
-    pub cell-moved : (coverage v : ℕ) → T (fits binary32 (getD cells cell nan)) → coverage ≡ coveredOf e winding → v ≡ plusOf coverage (getD filled cell 0)
-        → Moved e line cells run (set filled cell v) (set cells cell f0) (record { from = cell + 1; winding = winding; coverage = coverage })
-    cell-moved coverage v t c p =
-        let l = cell-in-line in
-        let ls : length (set filled cell v) ≡ length cells = length-set filled cell v ∙ l in
-        record {
-          reached = record { same = ls ∙ sym (length-set cells cell f0); within = omega arith; steady = steady-more (run .winding) (getD cells cell nan) t (r .steady); byte = c };
-          left = past-run e line cells (r .same) (run .winding) (run .from) cell h in-line (r .steady) z
-              ∙ ap (λ (x : List ℕ). lineAt e cell (run .winding) x cells) (sym filled-is)
-              ∙ past-cell e filled cells l (run .winding) cell (omega arith)
-              ∙ ap (λ (x : ℕ). lineAt e (cell + 1) winding (set filled cell x) (set cells cell f0)) (sym (p ∙ ap (λ (b : ℕ). plusOf b (getD filled cell 0)) c));
-        }
+  pub cell-moved : {coverage v : ℕ} → T (fits binary32 (getD cells cell nan)) → coverage ≡ coveredOf e winding → v ≡ plusOf coverage (getD filled cell 0)
+      → Moved e line cells run (set filled cell v) (set cells cell f0) (record { from = cell + 1; winding = winding; coverage = coverage })
+  cell-moved {coverage} {v} t c p =
+      let l = cell-in-line in
+      let ls : length (set filled cell v) ≡ length cells = length-set filled cell v ∙ l in
+      let byte : v ≡ plusOf (coveredOf e winding) (getD filled cell 0) = p ∙ ap (λ (b : ℕ). plusOf b (getD filled cell 0)) c in
+      record {
+        reached = record {
+          same = ls ∙ sym (length-set cells cell f0);
+          within = omega arith;
+          steady = steady-more (run .winding) (getD cells cell nan) t (r .steady);
+          byte = c;
+        };
+        line-same = past-run r cell h in-line z ∙ ap (λ (x : List ℕ). lineAt e cell (run .winding) x cells) (sym is)
+            ∙ past-cell e filled cells l (run .winding) cell (omega arith)
+            ∙ ap (λ (x : ℕ). lineAt e (cell + 1) winding (set filled cell x) (set cells cell f0)) (sym byte);
+      }
 
 -- the last run goes up to the row's end
-pub last-run : (e : Bool) (line : List ℕ) (cells : Cells) (run : Run) → Reached e line cells run → Blank cells 0 (length cells) → lineFrom e line cells run ≡ filledOf (run .from) (length line) (run .coverage) line
-last-run e line cells run r z =
-    let n : ℕ = length line in
+last-run : {e : Bool} {line : List ℕ} {cells : Cells} {run : Run} → Reached e line cells run → Blank cells 0 (length cells)
+    → lineFrom e line cells run ≡ filledOf (run .from) (length line) (run .coverage) line
+last-run {e} {line} {cells} {run} r z =
     let l = r .within in
-    past-run e line cells (r .same) (run .winding) (run .from) (length line) l (omega arith) (r .steady) (λ c p q g. z c (omega arith) g g)
-    ∙ finished e (length line) (filledOf (run .from) (length line) (coveredOf e (run .winding)) line) cells (run .winding) (let f = filled-length e line cells (r .same) (run .winding) (run .from) (length line) l (omega arith) (r .steady) (λ c p q g. z c (omega arith) g g) in omega arith)
-    ∙ ap (λ (b : ℕ). filledOf (run .from) (length line) b line) (sym (r .byte))
+    let blank : Blank cells (run .from) (length line) = λ c p q g. z c (omega arith) g g in
+    let f = filled-length r (length line) l (omega arith) blank in
+    past-run r (length line) l (omega arith) blank
+    ∙ finished e (length line) (filledOf (run .from) (length line) (run .coverage) line) cells (run .winding) (omega arith)
+
+pub swept : {e : Bool} {l₀ line : List ℕ} {c₀ cells : Cells} {r₀ run : Run} → Moved e l₀ c₀ r₀ line cells run → Blank cells 0 (length cells)
+    → {after : List ℕ} → after ≡ filledOf (run .from) (length line) (run .coverage) line → after ≡ lineFrom e l₀ c₀ r₀
+swept m z h = h ∙ sym (m .line-same ∙ last-run (m .reached) z)
 
 -- a row that holds no area adds nothing
 pub no-area : (e : Bool) (line : List ℕ) (n : ℕ) → length line ≡ n → ((i : ℕ) → getD line i 0 < 256) → addBytes line (bytesOf e f0 (replicate n f0)) ≡ line
@@ -169,4 +189,5 @@ no-area e line n h small =
 pub all-zero : (l : Cells) → Blank l 0 (length l) → l ≡ replicate (length l) f0
 all-zero [] z = refl
 all-zero (x ∷ l) z =
-    ap (λ (y : Float). y ∷ l) (z 0 (omega arith) (omega arith) (omega arith)) ∙ ap (λ (t : Cells). f0 ∷ t) (all-zero l (λ c p q h. z (suc c) (omega arith) (omega arith) (omega arith)))
+    ap (λ (y : Float). y ∷ l) (z 0 (omega arith) (omega arith) (omega arith))
+    ∙ ap (λ (t : Cells). f0 ∷ t) (all-zero l (λ c p q h. z (suc c) (omega arith) (omega arith) (omega arith)))

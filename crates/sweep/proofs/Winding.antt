@@ -1,9 +1,11 @@
--- A winding stays as it is where 0.0 is added to it, so cells that hold 0.0 can be passed over: a running sum from 0.0 on is never -0. Assumes nothing.
+-- A winding stays as it is where 0.0 is added to it, so cells that hold 0.0 can be passed over: a running sum from
+-- 0.0 on is never -0. Assumes nothing.
 use mathlib.Core.Path.{_≡_, refl, sym, ap, ap₂, _∙_, subst}
 use mathlib.Core.Logic.{_⊎_, inl, inr}
 use mathlib.Core.Bool.{Bool, true, false, cond, _&&_, Bool·beq, false≢true}
 use Prim.Native.Nat.{ℕ, zero, suc, _+_, _-_, _*_, _/_, _%_, _^_, _≤_, _<_, compare, Ordering}
-use native.Mathlib.Nat.{mul-one, zero-mul, mul-comm, mul-assoc, mul-left-comm, mul-pos, zero-lt-suc, pow-suc, pow-succ', eq-of-mul-eq-mul-right, lt-of-mul-lt-mul-right, mul-lt-mul-of-pos-right, mul-le-mul-left, mul-le-mul-right, le-div-iff-mul-le, le-trans, add-mul}
+use native.Mathlib.Nat.{mul-one, zero-mul, mul-comm, mul-assoc, mul-left-comm, add-mul, mul-pos, zero-lt-suc, pow-suc, pow-succ'}
+use native.Mathlib.Nat.{eq-of-mul-eq-mul-right, lt-of-mul-lt-mul-right, mul-lt-mul-of-pos-right, mul-le-mul-left, mul-le-mul-right, le-div-iff-mul-le, le-trans}
 use native.Mathlib.Omega.{arith}
 use lib.IntN.{ℤ, pos, negsuc}
 use lib.Dec.{T, eqb, ltb, leb, eqb→eq}
@@ -235,8 +237,10 @@ steady-more w a t h = zero-more (w ⊕ a) (add-fits binary32 w a) (go w a (subst
     go (fin s m g) (fin t k d) p q n e =
         let u = in-units binary32 s m g p in
         let v = in-units binary32 t k d q in
+        let left = scaled (m * up g) (down d) (down g) (2 ^ 149) (u .0) (u .1) in
+        let right = scaled (k * up d) (down g) (down d) (2 ^ 149) (v .0) (v .1) ∙ ap (λ (x : ℕ). v .0 * x) (mul-comm (down d) (down g)) in
         sum-some binary32 s t (m * up g * down d) (k * up d * down g) (down g * down d) (u .0) (v .0) (mul-pos (down-pos g) (down-pos d))
-        (scaled (m * up g) (down d) (down g) (2 ^ 149) (u .0) (u .1)) (scaled (k * up d) (down g) (down d) (2 ^ 149) (v .0) (v .1) ∙ ap (λ (x : ℕ). v .0 * x) (mul-comm (down d) (down g))) (λ h. u .2 (above s m g p n h)) e
+        left right (λ h. u .2 (above s m g p n h)) e
 
 pub running-sum-is-steady : RunningSumIsSteady
 running-sum-is-steady = record { start = steady-zero; more = steady-more; never-minus-zero = minus-zero-moves }

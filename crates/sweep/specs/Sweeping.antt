@@ -1,4 +1,5 @@
--- What the functions of a row's sweep promise to each other. The bytes themselves are those of crate row's Sweep.antt. Definitions only.
+-- What the functions of a row's sweep promise to each other. The bytes themselves are those of Bytes.antt.
+-- Definitions only.
 use mathlib.Core.Path.{_≡_}
 use mathlib.Core.Logic.{_⊎_}
 use mathlib.Core.Bool.{Bool}
@@ -8,7 +9,7 @@ use lib.ListN.{length, getD, take, drop}
 use lib.Ieee.{Float, nan}
 use Rattle.float.specs.Ops.{f0, _⊕_}
 use Rattle.row.specs.Row.{Cells}
-use Rattle.row.specs.Sweep.{coveredOf, bytesOf, addBytes}
+use Rattle.sweep.specs.Bytes.{coveredOf, bytesOf, addBytes}
 use Rattle.row.specs.Marks.{bitOf}
 use Rattle.sweep.specs.declared.Run.{Run}
 
@@ -24,7 +25,8 @@ filledOf from to by line = take from line ++ (map (plusOf by) (take (to - from) 
 abbrev pub Blank : Cells → ℕ → ℕ → Type 0
 Blank cells from to = (cell : ℕ) → from ≤ cell → cell < to → cell < length cells → getD cells cell nan ≡ f0
 
--- the line that a row comes to, where a run of it is reached: the bytes before the run are right, and those from it on are still to be added
+-- the line that a row comes to, where a run of it is reached: the bytes before the run are right, and those from it
+-- on are still to be added
 abbrev pub lineFrom : Bool → List ℕ → Cells → Run → List ℕ
 lineFrom evenOdd line cells run = take (run .from) line ++ addBytes (drop (run .from) line) (bytesOf evenOdd (run .winding) (drop (run .from) cells))
 
@@ -42,10 +44,10 @@ pub record Reached (evenOdd : Bool) (line : List ℕ) (cells : Cells) (run : Run
 -- from a run to a later one: the line that the row comes to is the same
 pub record Moved (evenOdd : Bool) (line : List ℕ) (cells : Cells) (run : Run) (line' : List ℕ) (cells' : Cells) (run' : Run) : Type 0 where
   pub reached : Reached evenOdd line' cells' run'
-  pub left : lineFrom evenOdd line cells run ≡ lineFrom evenOdd line' cells' run'
+  pub line-same : lineFrom evenOdd line cells run ≡ lineFrom evenOdd line' cells' run'
 
 -- a word of marks, for the cells from `base` on: a cell from the run on whose bit is clear holds 0.0
-pub record Word (cells : Cells) (run : Run) (base word : ℕ) : Type 0 where
+pub record MarkWord (cells : Cells) (run : Run) (base word : ℕ) : Type 0 where
   pub ahead : run .from ≤ base
   pub clear : (cell : ℕ) → run .from ≤ cell → cell < base + 64 → cell < length cells → (base ≤ cell → bitOf word (cell - base) ≡ 0) → getD cells cell nan ≡ f0
 

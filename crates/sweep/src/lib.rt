@@ -5,9 +5,9 @@ ghost use mathlib.Core.List.{map};
 ghost use Prim.Native.Nat.{_+_, _-_, _≤_, _<_};
 ghost use lib.ListN.{length, replicate, set};
 ghost use Rattle.float.specs.Ops.{f0};
-ghost use Rattle.row.specs.Sweep.{shareOf, coveredOf, bytesOf, addBytes};
+ghost use Rattle.sweep.specs.Bytes.{shareOf, coveredOf, bytesOf, addBytes};
 ghost use Rattle.row.specs.Marks.{Ready};
-ghost use Rattle.sweep.specs.Sweeping.{plusOf, filledOf, Blank, Reached, Moved, Word, WordDone, WordsDone};
+ghost use Rattle.sweep.specs.Sweeping.{plusOf, filledOf, Blank, Reached, Moved, MarkWord, WordDone, WordsDone};
 
 // The share of a cell at a winding, by the rule.
 fn share(even_odd: bool, winding: f32) -> f32
@@ -119,7 +119,7 @@ fn sweep_word(
     even_odd: bool,
 ) -> Run
     requires { ⌜ Reached «even_odd» (now line) (now cells) first ⌝ }
-    requires { ⌜ Word (now cells) first base word ⌝ }
+    requires { ⌜ MarkWord (now cells) first base word ⌝ }
     requires { ⌜ base ≤ 4096 ⌝ }
     ensures { λ r. ⌜ Moved «even_odd» (now (line .entry)) (now (cells .entry)) first (now (line .exit)) (now (cells .exit)) r ⌝ }
     ensures { λ r. ⌜ WordDone (now (cells .entry)) (now (cells .exit)) first r base ⌝ }

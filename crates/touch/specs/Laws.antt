@@ -1,4 +1,5 @@
--- The touch rule read from the answer: when a place is named, and when a list is refused. Stated of any answer that the rule allows. Proved in proofs/Laws.antt.
+-- The touch rule read from the answer: when a place is named, and when a list is refused. Stated of any answer that
+-- the rule allows. Proved in proofs/Laws.antt.
 use Prim.Native.Nat.{ℕ, _<_}
 use mathlib.Core.Path.{_≡_}
 use mathlib.Core.Bool.{true}
@@ -8,7 +9,7 @@ use lib.ListN.{length}
 use Rattle.fault.specs.declared.Fault.{Fault}
 use Rattle.geometry.specs.declared.Position.{Position}
 use Rattle.shape.specs.declared.RoundedBox.{RoundedBox}
-use Rattle.shape.specs.declared.Check.the-variants as check
+use Rattle.fault.specs.declared.Check.the-variants as check
 use Rattle.touch.specs.declared.TouchAnswer.{TouchAnswer}
 use Rattle.touch.specs.declared.TouchAnswer.the-variants.{Frame, Refused}
 use Rattle.touch.specs.Touch.{touchCheckOf, touchesAt, TouchRule}
@@ -17,10 +18,12 @@ use Rattle.touch.specs.Touch.{touchCheckOf, touchesAt, TouchRule}
 pub record FrameExactlyWhen : Type 0 where
   pub only : (bs : List RoundedBox) (fringe : Float) (p : Position) (k : ℕ) → TouchRule bs fringe p (Frame k)
       → (touchCheckOf bs fringe p ≡ check.Pass) × (touchesAt bs fringe p k ≡ true) × (k < length bs) × (k < 256)
-  pub always : (bs : List RoundedBox) (fringe : Float) (p : Position) (r : TouchAnswer) (k : ℕ) → touchCheckOf bs fringe p ≡ check.Pass → touchesAt bs fringe p k ≡ true → TouchRule bs fringe p r
-      → (j : ℕ) × (r ≡ Frame j)
+  pub always : (bs : List RoundedBox) (fringe : Float) (p : Position) (r : TouchAnswer) (k : ℕ)
+      → touchCheckOf bs fringe p ≡ check.Pass → touchesAt bs fringe p k ≡ true → TouchRule bs fringe p r → (j : ℕ) × (r ≡ Frame j)
 
 -- a list is refused with a fault exactly when its check refuses with that fault
 pub record RefusedExactlyWhen : Type 0 where
-  pub only : (bs : List RoundedBox) (fringe : Float) (p : Position) (f : Fault) → TouchRule bs fringe p (Refused f) → touchCheckOf bs fringe p ≡ check.Refused f
-  pub always : (bs : List RoundedBox) (fringe : Float) (p : Position) (r : TouchAnswer) (f : Fault) → touchCheckOf bs fringe p ≡ check.Refused f → TouchRule bs fringe p r → r ≡ Refused f
+  pub only : (bs : List RoundedBox) (fringe : Float) (p : Position) (f : Fault) → TouchRule bs fringe p (Refused f)
+      → touchCheckOf bs fringe p ≡ check.Refused f
+  pub always : (bs : List RoundedBox) (fringe : Float) (p : Position) (r : TouchAnswer) (f : Fault)
+      → touchCheckOf bs fringe p ≡ check.Refused f → TouchRule bs fringe p r → r ≡ Refused f

@@ -1,19 +1,20 @@
--- Document 01, 'Touch': 'Given a list of boxes, a fringe and a point, the call answers the place of some box whose coverage exists and whose distance at the point is
--- at most 0, as a byte counted from 0. "No frame" comes only when there is no such box.' Definitions only.
+-- Document 01, 'Touch': 'Given a list of boxes, a fringe and a point, the call answers the place of some box whose
+-- coverage exists and whose distance at the point is at most 0, as a byte counted from 0. "No frame" comes only when
+-- there is no such box.' Definitions only.
 use Prim.Native.Nat.{ℕ, zero, suc}
 use mathlib.Core.Path.{_≡_}
-use mathlib.Core.Bool.{Bool, true, false, cond}
+use mathlib.Core.Bool.{Bool, true, false}
 use mathlib.Core.List.{List, [], _∷_}
-use lib.Dec.{ltb}
 use lib.Ieee.{Float}
 use lib.ListN.{length}
-use Rattle.fault.specs.declared.Fault.the-variants as fault
 use Rattle.geometry.specs.declared.Position.{Position}
 use Rattle.shape.specs.declared.RoundedBox.{RoundedBox}
-use Rattle.shape.specs.declared.Check.{Check}
-use Rattle.shape.specs.declared.Check.the-variants as check
-use Rattle.shape.specs.Checks.{boxCheckOf, fringeCheckOf, pointCheckOf, _andThen_}
-use Rattle.shape.specs.Coverage.{touchesOf}
+use Rattle.fault.specs.declared.Check.{Check}
+use Rattle.fault.specs.declared.Check.the-variants as check
+use Rattle.shape.specs.Checks.{fringeCheckOf, pointCheckOf}
+use Rattle.fault.specs.Check.{_andThen_}
+use Rattle.boxes.specs.Checks.{countCheckOf, boxesCheckOf}
+use Rattle.clip_coverage.specs.Distance.{touchesOf}
 use Rattle.touch.specs.declared.TouchAnswer.{TouchAnswer}
 use Rattle.touch.specs.declared.TouchAnswer.the-variants as answer
 
@@ -21,15 +22,6 @@ abbrev pub pointOf : Float → Float → Position
 pointOf x y = record { x = x; y = y }
 
 -- ---- refusals
-
--- number 12: 'over 256 boxes in a touch list'
-abbrev pub countCheckOf : ℕ → Check
-countCheckOf n = cond (ltb 256 n) (check.Refused fault.TooManyBoxes) check.Pass
-
--- 'per box 1, 2, first box before second'
-abbrev pub boxesCheckOf : List RoundedBox → Check
-boxesCheckOf [] = check.Pass
-boxesCheckOf (b ∷ bs) = boxCheckOf b andThen boxesCheckOf bs
 
 -- 'Boxes: 12, then per box 1, 2, first box before second, then 1 for a lone frame, fringe and point'
 abbrev pub touchCheckOf : List RoundedBox → Float → Position → Check

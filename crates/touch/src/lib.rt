@@ -1,16 +1,19 @@
 // Touch: which frame of a list lies under a point. Added to femtovg's calls by document 01.
 //
-// `touch` is one thin walk over the lent boxes. The borrow checker covers no function with a slice of
-// structs, so `touch` and `touch_few` are proved by hand. What the walk starts from, its test, its
-// step and its end are functions that take what they need by value, and those are covered.
-ghost use Prim.Native.Nat.{_<_, _≤_};
-ghost use lib.ListN.{take};
+// `touch` is what is asked of each box, the walk over the lent boxes (crate boxes), and an end. The
+// borrow checker covers no function with a slice of structs, so it is proved by hand. `touch_floats` is
+// the same over lent floats, and is covered.
+ghost use Prim.Native.Nat.{_*_, _≤_};
+ghost use lib.ListN.{length};
 ghost use mathlib.Core.Path.{_≡_};
+ghost use Rattle.boxes.specs.Lent.{boxesIn};
 ghost use Rattle.touch.specs.Touch.{pointOf, TouchRule};
-ghost use Rattle.touch.specs.Walk.{startOf, refusalOf, goesOn, stepOf, finishOf};
+ghost use Rattle.touch.specs.Finish.{touchAsk, finishCheckOf, PlaceFits, answerOf, finishOf};
+use boxes::Ask;
+use boxes::Found;
+use fault::Check;
 use fault::Fault;
 use geometry::Position;
-use shape::Check;
 use shape::RoundedBox;
 
 pub enum TouchAnswer {
@@ -20,75 +23,45 @@ pub enum TouchAnswer {
     Refused(Fault),
 }
 
-impl TouchAnswer {
-    // The most boxes of a list.
-    const MOST_BOXES: usize = 256;
+// What is asked of each box.
+fn touch_ask(fringe: f32, x: f32, y: f32) -> Ask
+    ensures { λ r. ⌜ r ≡ touchAsk fringe x y ⌝ }
+{
+    Ask::Touch(fringe, x, y)
+}
 
-    // The answer before the first of n boxes.
-    fn start(n: usize) -> Self
-        ensures { λ r. ⌜ r ≡ startOf n ⌝ }
-    {
-        if Self::MOST_BOXES < n {
-            return TouchAnswer::Refused(Fault::TooManyBoxes);
-        }
-        TouchAnswer::NoFrame
-    }
+// Fringe and point are refused after the boxes.
+fn finish_check(found: Found, fringe: f32, x: f32, y: f32) -> Check
+    ensures { λ r. ⌜ r ≡ finishCheckOf found fringe (pointOf x y) ⌝ }
+{
+    let p = Position { x, y };
+    found
+        .check()
+        .and_then(shape::fringe_check(fringe))
+        .and_then(shape::point_check(p))
+}
 
-    // The refusal that an answer holds.
-    fn check(self) -> Check
-        ensures { λ r. ⌜ r ≡ refusalOf self ⌝ }
-    {
-        match self {
-            TouchAnswer::Frame(_) => Check::Pass,
-            TouchAnswer::NoFrame => Check::Pass,
-            TouchAnswer::Refused(fault) => Check::Refused(fault),
-        }
+// What the walk found as an answer: the place as a byte.
+fn answer(found: Found) -> TouchAnswer
+    requires { ⌜ PlaceFits found ⌝ }
+    ensures { λ r. ⌜ r ≡ answerOf found ⌝ }
+{
+    match found {
+        Found::At(k) => TouchAnswer::Frame(k as u8),
+        Found::Nowhere => TouchAnswer::NoFrame,
+        Found::Refused(fault) => TouchAnswer::Refused(fault),
     }
+}
 
-    // Whether box i of n is looked at. A place that was found does not end the walk: a box after it
-    // may be refused.
-    fn going(self, i: usize, n: usize) -> bool
-        ensures { λ r. ⌜ r ≡ goesOn self i n ⌝ }
-    {
-        if let Check::Refused(_) = self.check() {
-            return false;
-        }
-        i < n
+// The answer, where `found` is what the walk found.
+fn finish(found: Found, fringe: f32, x: f32, y: f32) -> TouchAnswer
+    requires { ⌜ PlaceFits found ⌝ }
+    ensures { λ r. ⌜ r ≡ finishOf found fringe (pointOf x y) ⌝ }
+{
+    if let Check::Refused(fault) = finish_check(found, fringe, x, y) {
+        return TouchAnswer::Refused(fault);
     }
-
-    // The answer after box i, where `self` is the answer before it.
-    fn step(self, b: RoundedBox, i: usize, fringe: f32, x: f32, y: f32) -> Self
-        requires { ⌜ i < 256 ⌝ }
-        ensures { λ r. ⌜ r ≡ stepOf self b i fringe (pointOf x y) ⌝ }
-    {
-        if let Check::Refused(fault) = b.check() {
-            return TouchAnswer::Refused(fault);
-        }
-        match self {
-            TouchAnswer::Frame(k) => TouchAnswer::Frame(k),
-            TouchAnswer::NoFrame => {
-                if b.touches_unchecked(fringe, Position { x, y }) {
-                    return TouchAnswer::Frame(i as u8);
-                }
-                TouchAnswer::NoFrame
-            },
-            TouchAnswer::Refused(fault) => TouchAnswer::Refused(fault),
-        }
-    }
-
-    // The answer, where `self` is the answer after the last box: fringe and point are refused after
-    // the boxes.
-    fn finish(self, fringe: f32, x: f32, y: f32) -> Self
-        ensures { λ r. ⌜ r ≡ finishOf self fringe (pointOf x y) ⌝ }
-    {
-        let p = Position { x, y };
-        if let Check::Refused(fault) = self.check()
-            .and_then(Check::fringe(fringe))
-            .and_then(Check::point(p)) {
-            return TouchAnswer::Refused(fault);
-        }
-        self
-    }
+    answer(found)
 }
 
 // The place of some box that the point touches: one whose coverage exists and whose distance at the
@@ -98,21 +71,16 @@ impl TouchAnswer {
 pub fn touch(boxes: &[RoundedBox], fringe: f32, x: f32, y: f32) -> TouchAnswer
     ensures { λ r. ⌜ TouchRule (now (boxes .entry)) fringe (pointOf x y) r ⌝ }
 {
-    let n = boxes.len();
-    let mut answer = TouchAnswer::start(n);
-    let mut i = 0;
-    while answer.going(i, n) {
-        answer = answer.step(boxes[i], i, fringe, x, y);
-        i = i + 1;
-    }
-    answer.finish(fringe, x, y)
+    let found = boxes::first_place(boxes, touch_ask(fringe, x, y));
+    finish(found, fringe, x, y)
 }
 
-// The same for the first n boxes of an array, which its callers fill by value: they need no walk of
-// their own. 257 boxes are enough to be refused for their number.
-pub fn touch_few(boxes: [RoundedBox; 257], n: usize, fringe: f32, x: f32, y: f32) -> TouchAnswer
-    requires { ⌜ n ≤ 257 ⌝ }
-    ensures { λ r. ⌜ TouchRule (take n boxes) fringe (pointOf x y) r ⌝ }
+// The same for the n boxes that the floats begin with, ten for each: its callers hold no list of boxes,
+// and need no walk of their own.
+pub fn touch_floats(floats: &[f32], n: usize, fringe: f32, x: f32, y: f32) -> TouchAnswer
+    requires { ⌜ n * 10 ≤ length (now floats) ⌝ }
+    ensures { λ r. ⌜ TouchRule (boxesIn (now (floats .entry)) n) fringe (pointOf x y) r ⌝ }
 {
-    touch(&boxes[..n], fringe, x, y)
+    let found = boxes::first_place_in(floats, n, touch_ask(fringe, x, y));
+    finish(found, fringe, x, y)
 }

@@ -1,5 +1,6 @@
--- The beliefs of specs/Beliefs.antt: the integral is additive over heights and has its plain value at a level crossing, a part is at most 1 in size, a share is from 0 to 1, and
--- the allowed difference is 1 for each edge that crosses the row and a half for each group. Assumes nothing.
+-- The beliefs of specs/Beliefs.antt: the integral is additive over heights and has its plain value at a level
+-- crossing, a part is at most 1 in size, a share is from 0 to 1, and the allowed difference is 1 for each edge that
+-- crosses the row and a half for each group. Assumes nothing.
 use mathlib.Core.Path.{_≡_}
 use mathlib.Core.Logic.{_⊎_, inl, inr}
 use mathlib.Core.List.{List, [], _∷_, _++_}
@@ -13,7 +14,7 @@ use Rattle.fraction.proofs.Order.{above-not, add-mul, mul-neg, antisym, cancel,
 use Rattle.fraction.proofs.Ring.{rep, reps, ring, cong-add}
 use Rattle.fraction.proofs.Near.{within-mul, within-self, within-weaken}
 use Rattle.fraction.proofs.Clamp.{min-le-right, min-at}
-use Rattle.words.specs.Words.{Group, evenOdd}
+use Rattle.word_list.specs.Words.{Group, evenOdd}
 use Rattle.winding.specs.Winding.{ExactPoint, ExactEdge, exactEdges, H, integral, crossing, downPart, exactPart, meanWinding, nonZeroShare, evenOddShare, groupShare}
 use Rattle.winding.specs.Drawn.{sumOfShares, drawnShare, crossings, allowedDifference}
 use Rattle.winding.specs.Beliefs.{IntegralBeliefs, CrossingBeliefs, ShareBeliefs, allEdges, AllowedIs}
@@ -24,7 +25,8 @@ use Rattle.winding.proofs.Part.{integral-is, top, bottom, down-is, down
 use Rattle.winding.proofs.Crosses.{crosses-yes, crosses-do, no-part}
 use Rattle.winding.proofs.Fold.{nonzero-near, nonzero-range, evenodd-le, evenodd-is, evenodd-near, evenodd-range}
 
--- ---- the integral is additive over heights: u, z and v are what a straight line has at the heights p, m and q, k being its slope
+-- ---- the integral is additive over heights: u, z and v are what a straight line has at the heights p, m and q, k
+-- being its slope
 module _ (p m q u z v k : Fraction) (first : z -ᶠ u ≈ᶠ (m -ᶠ p) *ᶠ k) (second : v -ᶠ z ≈ᶠ (q -ᶠ m) *ᶠ k) where
   whole : v -ᶠ u ≈ᶠ (q -ᶠ p) *ᶠ k
   whole =
@@ -155,7 +157,9 @@ group-share-nonneg g c row = go (evenOdd g) (meanWinding (exactEdges (g .contour
 sum-nonneg : (gs : List Group) (c row : ℕ) → natᶠ 0 ≤ᶠ sumOfShares gs c row
 unfolding sumOfShares
 sum-nonneg [] c row = lit tt
-sum-nonneg (g ∷ gs) c row = over (groupShare g c row ∷ sumOfShares gs c row ∷ natᶠ 0 ∷ []) (λ N n A B O. le-at N O (add-at N A B) n (omega (arith, O .is, at-le N O A (group-share-nonneg g c row), at-le N O B (sum-nonneg gs c row))))
+sum-nonneg (g ∷ gs) c row =
+    over (groupShare g c row ∷ sumOfShares gs c row ∷ natᶠ 0 ∷ [])
+    (λ N n A B O. le-at N O (add-at N A B) n (omega (arith, O .is, at-le N O A (group-share-nonneg g c row), at-le N O B (sum-nonneg gs c row))))
 
 pub drawn-share-at-most-one : (gs : List Group) (c row : ℕ) → drawnShare gs c row ≤ᶠ natᶠ 1
 drawn-share-at-most-one gs c row = min-le-right (sumOfShares gs c row) (natᶠ 1)
@@ -204,7 +208,8 @@ allowed-is (g ∷ gs) row =
     let k = crossings (exactEdges (g .contours)) row in
     let j = crossings (allEdges gs) row in
     rw (crossings-append (exactEdges (g .contours)) (allEdges gs) row)
-    (over (natᶠ k ∷ natᶠ j ∷ natᶠ (k + j) ∷ 1 /2^ 1 ∷ allowedDifference gs row ∷ natᶠ (length gs) ∷ natᶠ (suc (length gs)) ∷ 1 /2^ 1 *ᶠ natᶠ (length gs) ∷ 1 /2^ 1 *ᶠ natᶠ (suc (length gs)) ∷ []) (λ N n K J S P A L M X Y.
+    (over (natᶠ k ∷ natᶠ j ∷ natᶠ (k + j) ∷ 1 /2^ 1 ∷ allowedDifference gs row ∷ natᶠ (length gs) ∷
+    natᶠ (suc (length gs)) ∷ 1 /2^ 1 *ᶠ natᶠ (length gs) ∷ 1 /2^ 1 *ᶠ natᶠ (suc (length gs)) ∷ []) (λ N n K J S P A L M X Y.
     eq-at N (add-at N (add-at N K P) A) (add-at N S Y) n (omega (
       arith,
       K .is,

@@ -1,4 +1,5 @@
--- G(c; x, y): the share of the cell at column c. It errs by no more than x and y do, is from 0 to 1, and has these values, by where the edge is. Assumes nothing.
+-- G(c; x, y): the share of the cell at column c. It errs by no more than x and y do, is from 0 to 1, and has these
+-- values, by where the edge is. Assumes nothing.
 use mathlib.Core.Logic.{_⊎_, inl, inr}
 use mathlib.Core.List.{[], _∷_}
 use Prim.Native.Nat.{ℕ, suc, _<_}
@@ -45,7 +46,8 @@ G-area c x y =
     let v = natᶠ (suc c) -ᶠ y in
     let ρ = mean u v ∷ x ∷ y ∷ natᶠ (suc c) ∷ H u ∷ H v ∷ [] in
     let R = reps ρ in
-    trans≈ (ring ρ {x = (y -ᶠ x) *ᶠ mean u v} {y = natᶠ 0 -ᶠ mean u v *ᶠ (v -ᶠ u)} (search rep) (search rep) tt) (trans≈ (cong-sub (refl≈ (natᶠ 0)) (mean-area u v)) (ring ρ {x = natᶠ 0 -ᶠ (H v -ᶠ H u)} {y = H u -ᶠ H v} (search rep) (search rep) tt))
+    trans≈ (ring ρ {x = (y -ᶠ x) *ᶠ mean u v} {y = natᶠ 0 -ᶠ mean u v *ᶠ (v -ᶠ u)} (search rep) (search rep) tt)
+    (trans≈ (cong-sub (refl≈ (natᶠ 0)) (mean-area u v)) (ring ρ {x = natᶠ 0 -ᶠ (H v -ᶠ H u)} {y = H u -ᶠ H v} (search rep) (search rep) tt))
 
 -- what times the width gives the same is G
 pub G-by : (c : ℕ) (lo hi g : Fraction) → lo <ᶠ hi → (hi -ᶠ lo) *ᶠ g ≈ᶠ H (natᶠ (suc c) -ᶠ lo) -ᶠ H (natᶠ (suc c) -ᶠ hi) → G c lo hi ≈ᶠ g
@@ -67,7 +69,9 @@ pub left-H : (c : ℕ) (x : Fraction) → x ≤ᶠ natᶠ c → H (natᶠ (suc c
 left-H c x h = H-high (natᶠ (suc c) -ᶠ x) (left-at c x h)
 
 pub in-H : (c : ℕ) (x : Fraction) → natᶠ c ≤ᶠ x → x ≤ᶠ natᶠ (suc c) → H (natᶠ (suc c) -ᶠ x) ≈ᶠ (natᶠ (suc c) -ᶠ x) *ᶠ (natᶠ (suc c) -ᶠ x) *ᶠ 1 /2^ 1
-in-H c x p q = H-inside (natᶠ (suc c) -ᶠ x) (sub-nonneg q) (over (x ∷ natᶠ (suc c) ∷ natᶠ c ∷ natᶠ 1 ∷ []) (λ N n X C B I. le-at N (sub-at N C X) I n (omega (arith, at-le N B X p, at-eq N C (add-at N B I) (step c)))))
+in-H c x p q =
+    H-inside (natᶠ (suc c) -ᶠ x) (sub-nonneg q)
+    (over (x ∷ natᶠ (suc c) ∷ natᶠ c ∷ natᶠ 1 ∷ []) (λ N n X C B I. le-at N (sub-at N C X) I n (omega (arith, at-le N B X p, at-eq N C (add-at N B I) (step c)))))
 
 -- ---- an edge right of the cell has no share in it
 pub G-right : (c : ℕ) (x y : Fraction) → natᶠ (suc c) ≤ᶠ x → natᶠ (suc c) ≤ᶠ y → G c x y ≈ᶠ natᶠ 0
@@ -97,7 +101,8 @@ G-left c x y p q = go (le-or-lt (natᶠ (suc c) -ᶠ x) (natᶠ (suc c) -ᶠ y))
 
 -- ---- an edge from lo to hi that is cut at column 0: o is the part outside
 pub G-cut-left : (c : ℕ) (lo hi o : Fraction) → lo <ᶠ natᶠ 0 → natᶠ 0 <ᶠ hi → o *ᶠ (hi -ᶠ lo) ≈ᶠ negᶠ lo → G c lo hi ≈ᶠ o +ᶠ (natᶠ 1 -ᶠ o) *ᶠ G c (natᶠ 0) hi
-G-cut-left c lo hi o p q e = G-by c lo hi (o +ᶠ (natᶠ 1 -ᶠ o) *ᶠ g) (lt-trans p q) (trans≈ spread (trans≈ (cong-add (refl≈ (natᶠ 0 -ᶠ lo)) (trans≈ (cong-mul hi-is (refl≈ g)) (G-area c (natᶠ 0) hi))) ends))
+G-cut-left c lo hi o p q e =
+    G-by c lo hi (o +ᶠ (natᶠ 1 -ᶠ o) *ᶠ g) (lt-trans p q) (trans≈ spread (trans≈ (cong-add (refl≈ (natᶠ 0 -ᶠ lo)) (trans≈ (cong-mul hi-is (refl≈ g)) (G-area c (natᶠ 0) hi))) ends))
   where
     g : Fraction
     g = G c (natᶠ 0) hi
@@ -147,17 +152,21 @@ G-inside first lo hi le from to = trans≈ (mean-unique u v (1 /2^ 1 *ᶠ (u +�
     at-most-one x h = over (x ∷ natᶠ (suc first) ∷ natᶠ first ∷ natᶠ 1 ∷ []) (λ N n X C B I. le-at N (sub-at N C X) I n (omega (arith, at-le N B X h, at-eq N C (add-at N B I) (step first))))
 
     flat : u ≈ᶠ v → 1 /2^ 1 *ᶠ (u +ᶠ v) ≈ᶠ clampᶠ u
-    flat e = trans≈ (over (u ∷ v ∷ 1 /2^ 1 *ᶠ (u +ᶠ v) ∷ []) (λ N n A B J. eq-at N J A n (omega (arith, at-eq N A B e, scale-at N (1 /2^ 1) (add-at N A B) J)))) (sym≈ (clamp-inside u (sub-nonneg (trans le to)) (at-most-one lo from)))
+    flat e =
+        trans≈ (over (u ∷ v ∷ 1 /2^ 1 *ᶠ (u +ᶠ v) ∷ []) (λ N n A B J. eq-at N J A n (omega (arith, at-eq N A B e, scale-at N (1 /2^ 1) (add-at N A B) J))))
+        (sym≈ (clamp-inside u (sub-nonneg (trans le to)) (at-most-one lo from)))
 
     area : 1 /2^ 1 *ᶠ (u +ᶠ v) *ᶠ (v -ᶠ u) ≈ᶠ H v -ᶠ H u
     area =
         let ρ = u ∷ v ∷ 1 /2^ 1 ∷ [] in
         let R = reps ρ in
-        trans≈ (ring ρ {x = 1 /2^ 1 *ᶠ (u +ᶠ v) *ᶠ (v -ᶠ u)} {y = v *ᶠ v *ᶠ 1 /2^ 1 -ᶠ u *ᶠ u *ᶠ 1 /2^ 1} (search rep) (search rep) tt) (sym≈ (cong-sub (in-H first hi (trans from le) to) (in-H first lo from (trans le to))))
+        trans≈ (ring ρ {x = 1 /2^ 1 *ᶠ (u +ᶠ v) *ᶠ (v -ᶠ u)} {y = v *ᶠ v *ᶠ 1 /2^ 1 -ᶠ u *ᶠ u *ᶠ 1 /2^ 1} (search rep) (search rep) tt)
+        (sym≈ (cong-sub (in-H first hi (trans from le) to) (in-H first lo from (trans le to))))
 
     ends : 1 /2^ 1 *ᶠ (u +ᶠ v) ≈ᶠ natᶠ 1 -ᶠ (1 /2^ 1 *ᶠ (lo +ᶠ hi) -ᶠ natᶠ first)
     ends = over (lo ∷ hi ∷ natᶠ (suc first) ∷ natᶠ first ∷ natᶠ 1 ∷ 1 /2^ 1 *ᶠ (u +ᶠ v) ∷ 1 /2^ 1 *ᶠ (lo +ᶠ hi) ∷ []) (λ N n L U C B I J S.
-        eq-at N J (sub-at N I (sub-at N S B)) n (omega (arith, at-eq N C (add-at N B I) (step first), scale-at N (1 /2^ 1) (add-at N (sub-at N C L) (sub-at N C U)) J, scale-at N (1 /2^ 1) (add-at N L U) S)))
+        eq-at N J (sub-at N I (sub-at N S B)) n
+        (omega (arith, at-eq N C (add-at N B I) (step first), scale-at N (1 /2^ 1) (add-at N (sub-at N C L) (sub-at N C U)) J, scale-at N (1 /2^ 1) (add-at N L U) S)))
 
 -- ---- one across cells, r being 1 / (y - x): in its first cell, in one between, in its last
 one-time : (x : Fraction) → natᶠ 1 *ᶠ x ≈ᶠ x
@@ -165,7 +174,8 @@ one-time x = trans≈ (mul-comm (natᶠ 1) x) (mul-one x)
 
 pub G-first : (c : ℕ) (x y r : Fraction) → r *ᶠ (y -ᶠ x) ≈ᶠ natᶠ 1 → natᶠ c ≤ᶠ x → x <ᶠ natᶠ (suc c) → natᶠ (suc c) <ᶠ y → G c x y ≈ᶠ 1 /2^ 1 *ᶠ r *ᶠ (natᶠ (suc c) -ᶠ x) *ᶠ (natᶠ (suc c) -ᶠ x)
 G-first c x y r e p q l = G-by c x y (1 /2^ 1 *ᶠ r *ᶠ (natᶠ (suc c) -ᶠ x) *ᶠ (natᶠ (suc c) -ᶠ x)) (lt-trans q l)
-    (trans≈ apart (trans≈ (cong-mul e (refl≈ (s *ᶠ s *ᶠ 1 /2^ 1))) (trans≈ (one-time (s *ᶠ s *ᶠ 1 /2^ 1)) (trans≈ (less-none (s *ᶠ s *ᶠ 1 /2^ 1)) (cong-sub (sym≈ (in-H c x p (of-lt q))) (sym≈ (right-H c y (of-lt l))))))))
+    (trans≈ apart (trans≈ (cong-mul e (refl≈ (s *ᶠ s *ᶠ 1 /2^ 1)))
+    (trans≈ (one-time (s *ᶠ s *ᶠ 1 /2^ 1)) (trans≈ (less-none (s *ᶠ s *ᶠ 1 /2^ 1)) (cong-sub (sym≈ (in-H c x p (of-lt q))) (sym≈ (right-H c y (of-lt l))))))))
   where
     s : Fraction
     s = natᶠ (suc c) -ᶠ x
@@ -178,7 +188,8 @@ G-first c x y r e p q l = G-by c x y (1 /2^ 1 *ᶠ r *ᶠ (natᶠ (suc c) -ᶠ x
 
 pub G-between : (c : ℕ) (x y r : Fraction) → r *ᶠ (y -ᶠ x) ≈ᶠ natᶠ 1 → x ≤ᶠ natᶠ c → natᶠ (suc c) ≤ᶠ y → G c x y ≈ᶠ r *ᶠ (natᶠ c +ᶠ 1 /2^ 1 -ᶠ x)
 G-between c x y r e p q = G-by c x y (r *ᶠ (natᶠ c +ᶠ 1 /2^ 1 -ᶠ x)) (le-lt p (le-lt' q))
-    (trans≈ apart (trans≈ (cong-mul e (refl≈ (natᶠ c +ᶠ 1 /2^ 1 -ᶠ x))) (trans≈ (one-time (natᶠ c +ᶠ 1 /2^ 1 -ᶠ x)) (trans≈ (over (x ∷ natᶠ c ∷ natᶠ (suc c) ∷ 1 /2^ 1 ∷ natᶠ 0 ∷ natᶠ 1 ∷ []) (λ N n X B S I O U.
+    (trans≈ apart (trans≈ (cong-mul e (refl≈ (natᶠ c +ᶠ 1 /2^ 1 -ᶠ x)))
+    (trans≈ (one-time (natᶠ c +ᶠ 1 /2^ 1 -ᶠ x)) (trans≈ (over (x ∷ natᶠ c ∷ natᶠ (suc c) ∷ 1 /2^ 1 ∷ natᶠ 0 ∷ natᶠ 1 ∷ []) (λ N n X B S I O U.
     eq-at N (sub-at N (add-at N B I) X) (sub-at N (sub-at N (sub-at N S X) I) O) n (omega (arith, O .is, I .is, B .is, S .is)))) (cong-sub (sym≈ (left-H c x p)) (sym≈ (right-H c y q)))))))
   where
     le-lt' : natᶠ (suc c) ≤ᶠ y → natᶠ c <ᶠ y
@@ -189,7 +200,8 @@ G-between c x y r e p q = G-by c x y (r *ᶠ (natᶠ c +ᶠ 1 /2^ 1 -ᶠ x)) (le
 
 pub G-last : (c : ℕ) (x y r : Fraction) → r *ᶠ (y -ᶠ x) ≈ᶠ natᶠ 1 → x ≤ᶠ natᶠ c → natᶠ c <ᶠ y → y ≤ᶠ natᶠ (suc c) → G c x y ≈ᶠ natᶠ 1 -ᶠ 1 /2^ 1 *ᶠ r *ᶠ (y -ᶠ natᶠ c) *ᶠ (y -ᶠ natᶠ c)
 G-last c x y r e p l q = G-by c x y (natᶠ 1 -ᶠ 1 /2^ 1 *ᶠ r *ᶠ (y -ᶠ natᶠ c) *ᶠ (y -ᶠ natᶠ c)) (le-lt p l)
-    (trans≈ apart (trans≈ (cong-sub (refl≈ (y -ᶠ x)) (trans≈ (cong-mul e (refl≈ half-square)) (one-time half-square))) (trans≈ (sym≈ square) (cong-sub (sym≈ (left-H c x p)) (sym≈ (in-H c y (of-lt l) q))))))
+    (trans≈ apart (trans≈ (cong-sub (refl≈ (y -ᶠ x)) (trans≈ (cong-mul e (refl≈ half-square)) (one-time half-square)))
+    (trans≈ (sym≈ square) (cong-sub (sym≈ (left-H c x p)) (sym≈ (in-H c y (of-lt l) q))))))
   where
     half-square : Fraction
     half-square = 1 /2^ 1 *ᶠ (y -ᶠ natᶠ c) *ᶠ (y -ᶠ natᶠ c)
@@ -205,10 +217,12 @@ G-last c x y r e p l q = G-by c x y (natᶠ 1 -ᶠ 1 /2^ 1 *ᶠ r *ᶠ (y -ᶠ n
     halves = (unfold _+ᶠ_ _-ᶠ_ in lit≈ tt)
 
     drop : (z w : Fraction) → z +ᶠ (natᶠ 1 -ᶠ (1 /2^ 1 +ᶠ 1 /2^ 1)) *ᶠ w ≈ᶠ z
-    drop z w = over (z ∷ (natᶠ 1 -ᶠ (1 /2^ 1 +ᶠ 1 /2^ 1)) *ᶠ w ∷ natᶠ 0 ∷ []) (λ N n Z W O. eq-at N (add-at N Z W) Z n (omega (arith, O .is, at-eq N W O (trans≈ (cong-mul halves (refl≈ w)) (zero-mul w)))))
+    drop z w =
+        over (z ∷ (natᶠ 1 -ᶠ (1 /2^ 1 +ᶠ 1 /2^ 1)) *ᶠ w ∷ natᶠ 0 ∷ []) (λ N n Z W O. eq-at N (add-at N Z W) Z n (omega (arith, O .is, at-eq N W O (trans≈ (cong-mul halves (refl≈ w)) (zero-mul w)))))
 
     square : natᶠ (suc c) -ᶠ x -ᶠ 1 /2^ 1 -ᶠ (natᶠ (suc c) -ᶠ y) *ᶠ (natᶠ (suc c) -ᶠ y) *ᶠ 1 /2^ 1 ≈ᶠ y -ᶠ x -ᶠ 1 /2^ 1 *ᶠ (y -ᶠ natᶠ c) *ᶠ (y -ᶠ natᶠ c)
     square =
         let s = step c in
         let t = cong-sub s (refl≈ y) in
-        trans≈ (cong-sub (cong-sub (cong-sub s (refl≈ x)) (refl≈ (1 /2^ 1))) (cong-mul (cong-mul t t) (refl≈ (1 /2^ 1)))) (trans≈ (poly (natᶠ c) (1 /2^ 1)) (drop (y -ᶠ x -ᶠ 1 /2^ 1 *ᶠ (y -ᶠ natᶠ c) *ᶠ (y -ᶠ natᶠ c)) (natᶠ c -ᶠ y +ᶠ natᶠ 1)))
+        trans≈ (cong-sub (cong-sub (cong-sub s (refl≈ x)) (refl≈ (1 /2^ 1))) (cong-mul (cong-mul t t) (refl≈ (1 /2^ 1))))
+        (trans≈ (poly (natᶠ c) (1 /2^ 1)) (drop (y -ᶠ x -ᶠ 1 /2^ 1 *ᶠ (y -ᶠ natᶠ c) *ᶠ (y -ᶠ natᶠ c)) (natᶠ c -ᶠ y +ᶠ natᶠ 1)))

@@ -21,17 +21,21 @@ form : (t s k j h : Fraction) → h +ᶠ h ≈ᶠ natᶠ 1 → t *ᶠ k -ᶠ k *
 form t s k j h e =
     let ρ = t ∷ s ∷ k ∷ j ∷ h ∷ [] in
     let R = reps ρ in
-    trans≈ (ring ρ {x = t *ᶠ k -ᶠ k *ᶠ k *ᶠ h -ᶠ (s *ᶠ j -ᶠ j *ᶠ j *ᶠ h) -ᶠ j *ᶠ (t -ᶠ s)} {y = h *ᶠ ((k -ᶠ j) *ᶠ (k -ᶠ j)) +ᶠ (t *ᶠ (k -ᶠ j) -ᶠ (h +ᶠ h) *ᶠ (k *ᶠ (k -ᶠ j)))} (search rep depth 9) (search rep depth 9) tt)
+    trans≈ (ring ρ {x = t *ᶠ k -ᶠ k *ᶠ k *ᶠ h -ᶠ (s *ᶠ j -ᶠ j *ᶠ j *ᶠ h) -ᶠ j *ᶠ (t -ᶠ s)} {y = h *ᶠ ((k -ᶠ j) *ᶠ (k -ᶠ j)) +ᶠ (t *ᶠ (k -ᶠ j) -ᶠ (h +ᶠ h) *ᶠ (k *ᶠ (k -ᶠ j)))}
+    (search rep depth 9) (search rep depth 9) tt)
     (trans≈ (cong-add (refl≈ (h *ᶠ ((k -ᶠ j) *ᶠ (k -ᶠ j)))) (cong-sub (refl≈ (t *ᶠ (k -ᶠ j))) (cong-mul e (refl≈ (k *ᶠ (k -ᶠ j))))))
     (ring ρ {x = h *ᶠ ((k -ᶠ j) *ᶠ (k -ᶠ j)) +ᶠ (t *ᶠ (k -ᶠ j) -ᶠ natᶠ 1 *ᶠ (k *ᶠ (k -ᶠ j)))} {y = h *ᶠ ((k -ᶠ j) *ᶠ (k -ᶠ j)) +ᶠ (t -ᶠ k) *ᶠ (k -ᶠ j)} (search rep depth 9) (search rep depth 9) tt))
 
 -- half the square of t - s is more by half of ((t - k) - (s - j))², and by (s - j)(j - k)
-above : (t s k j h : Fraction) → h +ᶠ h ≈ᶠ natᶠ 1 → h *ᶠ ((t -ᶠ s) *ᶠ (t -ᶠ s)) -ᶠ (h *ᶠ ((k -ᶠ j) *ᶠ (k -ᶠ j)) +ᶠ (t -ᶠ k) *ᶠ (k -ᶠ j)) ≈ᶠ h *ᶠ ((t -ᶠ k -ᶠ (s -ᶠ j)) *ᶠ (t -ᶠ k -ᶠ (s -ᶠ j))) +ᶠ (s -ᶠ j) *ᶠ (j -ᶠ k)
+above : (t s k j h : Fraction) → h +ᶠ h ≈ᶠ natᶠ 1 → h *ᶠ ((t -ᶠ s) *ᶠ (t -ᶠ s)) -ᶠ (h *ᶠ ((k -ᶠ j) *ᶠ (k -ᶠ j)) +ᶠ (t -ᶠ k) *ᶠ (k -ᶠ j))
+    ≈ᶠ h *ᶠ ((t -ᶠ k -ᶠ (s -ᶠ j)) *ᶠ (t -ᶠ k -ᶠ (s -ᶠ j))) +ᶠ (s -ᶠ j) *ᶠ (j -ᶠ k)
 above t s k j h e =
     let ρ = t ∷ s ∷ k ∷ j ∷ h ∷ [] in
     let R = reps ρ in
     trans≈ (cong-sub (refl≈ (h *ᶠ ((t -ᶠ s) *ᶠ (t -ᶠ s)))) (cong-add (refl≈ (h *ᶠ ((k -ᶠ j) *ᶠ (k -ᶠ j)))) (one ((t -ᶠ k) *ᶠ (k -ᶠ j)))))
-    (trans≈ (ring ρ {x = h *ᶠ ((t -ᶠ s) *ᶠ (t -ᶠ s)) -ᶠ (h *ᶠ ((k -ᶠ j) *ᶠ (k -ᶠ j)) +ᶠ (h +ᶠ h) *ᶠ ((t -ᶠ k) *ᶠ (k -ᶠ j)))} {y = h *ᶠ ((t -ᶠ k -ᶠ (s -ᶠ j)) *ᶠ (t -ᶠ k -ᶠ (s -ᶠ j))) +ᶠ (h +ᶠ h) *ᶠ ((s -ᶠ j) *ᶠ (j -ᶠ k))} (search rep depth 9) (search rep depth 9) tt)
+    (trans≈ (ring ρ
+    {x = h *ᶠ ((t -ᶠ s) *ᶠ (t -ᶠ s)) -ᶠ (h *ᶠ ((k -ᶠ j) *ᶠ (k -ᶠ j)) +ᶠ (h +ᶠ h) *ᶠ ((t -ᶠ k) *ᶠ (k -ᶠ j)))}
+    {y = h *ᶠ ((t -ᶠ k -ᶠ (s -ᶠ j)) *ᶠ (t -ᶠ k -ᶠ (s -ᶠ j))) +ᶠ (h +ᶠ h) *ᶠ ((s -ᶠ j) *ᶠ (j -ᶠ k))} (search rep depth 9) (search rep depth 9) tt)
     (cong-add (refl≈ (h *ᶠ ((t -ᶠ k -ᶠ (s -ᶠ j)) *ᶠ (t -ᶠ k -ᶠ (s -ᶠ j))))) (sym≈ (one ((s -ᶠ j) *ᶠ (j -ᶠ k))))))
   where
     one : (x : Fraction) → x ≈ᶠ (h +ᶠ h) *ᶠ x
@@ -53,13 +57,16 @@ module _ (s t : Fraction) where
   rise-nonneg =
       let a = half-nonneg (square-nonneg (k -ᶠ j)) in
       let b = outward t j (clamp-nonneg s) (clamp-le-one s) in
-      trans (over (1 /2^ 1 *ᶠ ((k -ᶠ j) *ᶠ (k -ᶠ j)) ∷ (t -ᶠ k) *ᶠ (k -ᶠ j) ∷ natᶠ 0 ∷ []) (λ N n A B O. le-at N O (add-at N A B) n (omega (arith, O .is, at-le N O A a, at-le N O B b)))) (of-eq (sym≈ rise-form))
+      trans (over (1 /2^ 1 *ᶠ ((k -ᶠ j) *ᶠ (k -ᶠ j)) ∷ (t -ᶠ k) *ᶠ (k -ᶠ j) ∷ natᶠ 0 ∷ []) (λ N n A B O. le-at N O (add-at N A B) n (omega (arith, O .is, at-le N O A a, at-le N O B b))))
+      (of-eq (sym≈ rise-form))
 
   pub rise-le : rise s t ≤ᶠ 1 /2^ 1 *ᶠ ((t -ᶠ s) *ᶠ (t -ᶠ s))
   rise-le =
       let a = half-nonneg (square-nonneg (t -ᶠ k -ᶠ (s -ᶠ j))) in
       let b = outward s k (clamp-nonneg t) (clamp-le-one t) in
-      trans (of-eq rise-form) (le-by (over (1 /2^ 1 *ᶠ ((t -ᶠ k -ᶠ (s -ᶠ j)) *ᶠ (t -ᶠ k -ᶠ (s -ᶠ j))) ∷ (s -ᶠ j) *ᶠ (j -ᶠ k) ∷ natᶠ 0 ∷ []) (λ N n A B O. le-at N O (add-at N A B) n (omega (arith, O .is, at-le N O A a, at-le N O B b))))
+      trans (of-eq rise-form)
+      (le-by (over (1 /2^ 1 *ᶠ ((t -ᶠ k -ᶠ (s -ᶠ j)) *ᶠ (t -ᶠ k -ᶠ (s -ᶠ j))) ∷ (s -ᶠ j) *ᶠ (j -ᶠ k) ∷ natᶠ 0 ∷ [])
+      (λ N n A B O. le-at N O (add-at N A B) n (omega (arith, O .is, at-le N O A a, at-le N O B b))))
       (above t s k j (1 /2^ 1) (unfold _+ᶠ_ in lit≈ tt)))
 
 -- ---- equal numbers have an equal H

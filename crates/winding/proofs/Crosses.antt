@@ -1,5 +1,5 @@
--- Document 01's 'An edge "crosses" a row when it is not level and overlaps the row in more than a point', of the test `crosses`; and an edge that does not cross a row has no
--- part in it. Assumes nothing.
+-- Document 01's 'An edge "crosses" a row when it is not level and overlaps the row in more than a point', of the test
+-- `crosses`; and an edge that does not cross a row has no part in it. Assumes nothing.
 use mathlib.Core.Logic.{_⊎_, inl, inr}
 use mathlib.Core.List.{[], _∷_}
 use mathlib.Core.Bool.{not}

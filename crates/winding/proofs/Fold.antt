@@ -1,4 +1,5 @@
--- The two shares of a winding: neither changes by more than the winding does, and both are from 0 to 1. The even-odd share is the distance to the nearest even number. Assumes nothing.
+-- The two shares of a winding: neither changes by more than the winding does, and both are from 0 to 1. The even-odd
+-- share is the distance to the nearest even number. Assumes nothing.
 use mathlib.Core.Path.{_≡_}
 use mathlib.Core.Logic.{_⊎_, inl, inr}
 use mathlib.Core.List.{[], _∷_}

@@ -1,4 +1,5 @@
--- D(u, v): `mean`. Its product with v - u is H(v) - H(u), it lies between the held u and v, does not depend on their order, and grows with each of them by at most half as much. Assumes nothing.
+-- D(u, v): `mean`. Its product with v - u is H(v) - H(u), it lies between the held u and v, does not depend on their
+-- order, and grows with each of them by at most half as much. Assumes nothing.
 use mathlib.Core.Path.{_≡_, refl}
 use mathlib.Core.Logic.{_⊎_, inl, inr}
 use mathlib.Core.List.{[], _∷_}
@@ -7,7 +8,8 @@ use native.Mathlib.Omega.{arith}
 use lib.Dec.{T}
 use Rattle.fraction.specs.Fraction.{Fraction, _≤ᶠ_, _<ᶠ_, _≈ᶠ_, leᵇ, natᶠ, _/2^_, _+ᶠ_, _-ᶠ_, _*ᶠ_, _/ᶠ_, clampᶠ, Near}
 use Rattle.fraction.proofs.Linear.{at-le, at-lt, at-eq, le-at, eq-at, add-at, sub-at, scale-at, over, trans}
-use Rattle.fraction.proofs.Order.{of-eq, sym≈, trans≈, antisym, mul-cong, mul-comm, mul-mono, mul-nonneg, zero-mul, div-mul, cancel-eq, cancel-le, le-cong, le-or-lt, lt-not, of-lt, refl≈, sub-above, sub-nonneg}
+use Rattle.fraction.proofs.Order.{of-eq, sym≈, trans≈, antisym, mul-cong, mul-comm, mul-mono, mul-nonneg, zero-mul}
+use Rattle.fraction.proofs.Order.{div-mul, cancel-eq, cancel-le, le-cong, le-or-lt, lt-not, of-lt, refl≈, sub-above, sub-nonneg}
 use Rattle.fraction.proofs.Ring.{rep, reps, ring, cong-add, cong-sub, cong-mul}
 use Rattle.fraction.proofs.Near.{near-trans, near-weaken}
 use Rattle.fraction.proofs.Clamp.{yes≤, no<, clamp-nonneg, clamp-le-one, clamp-cong}
@@ -57,7 +59,8 @@ mean-unique u v d l a = go (mean-is u v)
         turned x y e =
             let ρ = x ∷ y ∷ u ∷ v ∷ [] in
             let R = reps ρ in
-            trans≈ (ring ρ {x = (u -ᶠ v) *ᶠ x} {y = natᶠ 0 -ᶠ x *ᶠ (v -ᶠ u)} (search rep) (search rep) tt) (trans≈ (cong-sub (refl≈ (natᶠ 0)) e) (ring ρ {x = natᶠ 0 -ᶠ y *ᶠ (v -ᶠ u)} {y = (u -ᶠ v) *ᶠ y} (search rep) (search rep) tt))
+            trans≈ (ring ρ {x = (u -ᶠ v) *ᶠ x} {y = natᶠ 0 -ᶠ x *ᶠ (v -ᶠ u)} (search rep) (search rep) tt)
+            (trans≈ (cong-sub (refl≈ (natᶠ 0)) e) (ring ρ {x = natᶠ 0 -ᶠ y *ᶠ (v -ᶠ u)} {y = (u -ᶠ v) *ᶠ y} (search rep) (search rep) tt))
 
 pub mean-level : (u v : Fraction) → u ≈ᶠ v → mean u v ≈ᶠ clampᶠ u
 mean-level u v e = go (mean-is u v)
@@ -72,31 +75,51 @@ pub mean-sym : (u v : Fraction) → mean u v ≈ᶠ mean v u
 mean-sym u v = mean-unique u v (mean v u) (λ e. trans≈ (mean-level v u (sym≈ e)) (clamp-cong (sym≈ e)))
     (let ρ = mean v u ∷ u ∷ v ∷ H u ∷ H v ∷ [] in
     let R = reps ρ in
-    trans≈ (ring ρ {x = mean v u *ᶠ (v -ᶠ u)} {y = natᶠ 0 -ᶠ mean v u *ᶠ (u -ᶠ v)} (search rep) (search rep) tt) (trans≈ (cong-sub (refl≈ (natᶠ 0)) (mean-area v u)) (ring ρ {x = natᶠ 0 -ᶠ (H u -ᶠ H v)} {y = H v -ᶠ H u} (search rep) (search rep) tt)))
+    trans≈ (ring ρ {x = mean v u *ᶠ (v -ᶠ u)} {y = natᶠ 0 -ᶠ mean v u *ᶠ (u -ᶠ v)} (search rep) (search rep) tt)
+    (trans≈ (cong-sub (refl≈ (natᶠ 0)) (mean-area v u)) (ring ρ {x = natᶠ 0 -ᶠ (H u -ᶠ H v)} {y = H v -ᶠ H u} (search rep) (search rep) tt)))
 
 -- nor how they are written
 pub mean-cong : {u u' v v' : Fraction} → u ≈ᶠ u' → v ≈ᶠ v' → mean u v ≈ᶠ mean u' v'
 mean-cong {u} {u'} {v} {v'} e f = mean-unique u v (mean u' v') (λ l. trans≈ (mean-level u' v' (trans≈ (sym≈ e) (trans≈ l f))) (clamp-cong (sym≈ e)))
     (trans≈ (mul-cong (mean u' v') (cong-sub f e)) (trans≈ (mean-area u' v') (cong-sub (H-cong (sym≈ f)) (H-cong (sym≈ e)))))
 
+-- ---- from x to y it rises, by at most j
+
+abbrev Rises : Fraction → Fraction → Fraction → Type 0
+Rises x y j = (x ≤ᶠ y) × (y ≤ᶠ x +ᶠ j)
+
+rises : (x y j : Fraction) → natᶠ 0 ≤ᶠ y -ᶠ x → y -ᶠ x ≤ᶠ j → Rises x y j
+rises x y j a b = over (x ∷ y ∷ natᶠ 0 ∷ j ∷ []) (λ N n X Y O J. (
+  le-at N X Y n (omega (arith, O .is, at-le N O (sub-at N Y X) a)),
+  le-at N Y (add-at N X J) n (omega (arith, at-le N (sub-at N Y X) J b)),
+))
+
+-- not at all, where the step is none
+rises-none : (x y u v : Fraction) → y ≈ᶠ x → v ≈ᶠ u → Rises x y (1 /2^ 1 *ᶠ (v -ᶠ u))
+rises-none x y u v m e = (
+  of-eq (sym≈ m),
+  over (x ∷ y ∷ u ∷ v ∷ 1 /2^ 1 *ᶠ (v -ᶠ u) ∷ []) (λ N n X Y U Z J.
+      le-at N Y (add-at N X J) n (omega (arith, at-eq N Y X m, at-eq N Z U e, scale-at N (1 /2^ 1) (sub-at N Z U) J))),
+)
+
 -- ---- the mean is near the held ends: for u ≤ v from K(u) to K(u) + (v - u) / 2, and from K(v) - (v - u) / 2 to K(v)
 module _ (u v : Fraction) (le : u ≤ᶠ v) where
   -- x is K(u) + r / (v - u), where r is the rise from u to v
-  at-first : (clampᶠ u ≤ᶠ mean u v) × (mean u v ≤ᶠ clampᶠ u +ᶠ 1 /2^ 1 *ᶠ (v -ᶠ u))
+  at-first : Rises (clampᶠ u) (mean u v) (1 /2^ 1 *ᶠ (v -ᶠ u))
   at-first = go (le-or-lt v u)
     where
-      flat : u ≈ᶠ v → (clampᶠ u ≤ᶠ mean u v) × (mean u v ≤ᶠ clampᶠ u +ᶠ 1 /2^ 1 *ᶠ (v -ᶠ u))
-      flat e = let m = mean-level u v e in
-          (of-eq (sym≈ m), over (clampᶠ u ∷ mean u v ∷ u ∷ v ∷ 1 /2^ 1 *ᶠ (v -ᶠ u) ∷ []) (λ N n K M U W J. le-at N M (add-at N K J) n (omega (arith, at-eq N M K m, at-eq N U W e, scale-at N (1 /2^ 1) (sub-at N W U) J))))
+      flat : u ≈ᶠ v → Rises (clampᶠ u) (mean u v) (1 /2^ 1 *ᶠ (v -ᶠ u))
+      flat e = rises-none (clampᶠ u) (mean u v) u v (mean-level u v e) (sym≈ e)
 
       -- (v - u) (D - K(u)) is the rise
       over-first : (v -ᶠ u) *ᶠ (mean u v -ᶠ clampᶠ u) ≈ᶠ rise u v
       over-first =
           let ρ = mean u v ∷ clampᶠ u ∷ u ∷ v ∷ [] in
           let R = reps ρ in
-          trans≈ (ring ρ {x = (v -ᶠ u) *ᶠ (mean u v -ᶠ clampᶠ u)} {y = mean u v *ᶠ (v -ᶠ u) -ᶠ clampᶠ u *ᶠ (v -ᶠ u)} (search rep) (search rep) tt) (cong-sub (mean-area u v) (refl≈ (clampᶠ u *ᶠ (v -ᶠ u))))
+          trans≈ (ring ρ {x = (v -ᶠ u) *ᶠ (mean u v -ᶠ clampᶠ u)} {y = mean u v *ᶠ (v -ᶠ u) -ᶠ clampᶠ u *ᶠ (v -ᶠ u)} (search rep) (search rep) tt)
+          (cong-sub (mean-area u v) (refl≈ (clampᶠ u *ᶠ (v -ᶠ u))))
 
-      steep : u <ᶠ v → (clampᶠ u ≤ᶠ mean u v) × (mean u v ≤ᶠ clampᶠ u +ᶠ 1 /2^ 1 *ᶠ (v -ᶠ u))
+      steep : u <ᶠ v → Rises (clampᶠ u) (mean u v) (1 /2^ 1 *ᶠ (v -ᶠ u))
       steep h =
           let ρ = u ∷ v ∷ 1 /2^ 1 ∷ [] in
           let R = reps ρ in
@@ -104,21 +127,17 @@ module _ (u v : Fraction) (le : u ≤ᶠ v) where
           (le-cong (sym≈ (trans≈ (mul-comm (v -ᶠ u) (natᶠ 0)) (zero-mul (v -ᶠ u)))) (sym≈ over-first) (rise-nonneg u v)) in
           let b : mean u v -ᶠ clampᶠ u ≤ᶠ 1 /2^ 1 *ᶠ (v -ᶠ u) = cancel-le (mean u v -ᶠ clampᶠ u) (1 /2^ 1 *ᶠ (v -ᶠ u)) (v -ᶠ u) (sub-above h)
           (le-cong (sym≈ over-first) (ring ρ {x = 1 /2^ 1 *ᶠ ((v -ᶠ u) *ᶠ (v -ᶠ u))} {y = (v -ᶠ u) *ᶠ (1 /2^ 1 *ᶠ (v -ᶠ u))} (search rep) (search rep) tt) (rise-le u v)) in
-          over (clampᶠ u ∷ mean u v ∷ natᶠ 0 ∷ 1 /2^ 1 *ᶠ (v -ᶠ u) ∷ []) (λ N n K M O J. (
-            le-at N K M n (omega (arith, O .is, at-le N O (sub-at N M K) a)),
-            le-at N M (add-at N K J) n (omega (arith, at-le N (sub-at N M K) J b)),
-          ))
+          rises (clampᶠ u) (mean u v) (1 /2^ 1 *ᶠ (v -ᶠ u)) a b
 
-      go : (v ≤ᶠ u) ⊎ (u <ᶠ v) → (clampᶠ u ≤ᶠ mean u v) × (mean u v ≤ᶠ clampᶠ u +ᶠ 1 /2^ 1 *ᶠ (v -ᶠ u))
+      go : (v ≤ᶠ u) ⊎ (u <ᶠ v) → Rises (clampᶠ u) (mean u v) (1 /2^ 1 *ᶠ (v -ᶠ u))
       go (inl h) = flat (antisym le h)
       go (inr h) = steep h
 
-  at-last : (clampᶠ v ≤ᶠ mean u v +ᶠ 1 /2^ 1 *ᶠ (v -ᶠ u)) × (mean u v ≤ᶠ clampᶠ v)
+  at-last : Rises (mean u v) (clampᶠ v) (1 /2^ 1 *ᶠ (v -ᶠ u))
   at-last = go (le-or-lt v u)
     where
-      flat : u ≈ᶠ v → (clampᶠ v ≤ᶠ mean u v +ᶠ 1 /2^ 1 *ᶠ (v -ᶠ u)) × (mean u v ≤ᶠ clampᶠ v)
-      flat e = let m = trans≈ (mean-level u v e) (clamp-cong e) in
-          (over (clampᶠ v ∷ mean u v ∷ u ∷ v ∷ 1 /2^ 1 *ᶠ (v -ᶠ u) ∷ []) (λ N n K M U W J. le-at N K (add-at N M J) n (omega (arith, at-eq N M K m, at-eq N U W e, scale-at N (1 /2^ 1) (sub-at N W U) J))), of-eq m)
+      flat : u ≈ᶠ v → Rises (mean u v) (clampᶠ v) (1 /2^ 1 *ᶠ (v -ᶠ u))
+      flat e = rises-none (mean u v) (clampᶠ v) u v (sym≈ (trans≈ (mean-level u v e) (clamp-cong e))) (sym≈ e)
 
       -- (v - u) (K(v) - D) is the rise from v back to u
       over-last : (v -ᶠ u) *ᶠ (clampᶠ v -ᶠ mean u v) ≈ᶠ rise v u
@@ -128,7 +147,7 @@ module _ (u v : Fraction) (le : u ≤ᶠ v) where
           trans≈ (ring ρ {x = (v -ᶠ u) *ᶠ (clampᶠ v -ᶠ mean u v)} {y = clampᶠ v *ᶠ (v -ᶠ u) -ᶠ mean u v *ᶠ (v -ᶠ u)} (search rep) (search rep) tt)
           (trans≈ (cong-sub (refl≈ (clampᶠ v *ᶠ (v -ᶠ u))) (mean-area u v)) (ring ρ {x = clampᶠ v *ᶠ (v -ᶠ u) -ᶠ (H v -ᶠ H u)} {y = H u -ᶠ H v -ᶠ clampᶠ v *ᶠ (u -ᶠ v)} (search rep) (search rep) tt))
 
-      steep : u <ᶠ v → (clampᶠ v ≤ᶠ mean u v +ᶠ 1 /2^ 1 *ᶠ (v -ᶠ u)) × (mean u v ≤ᶠ clampᶠ v)
+      steep : u <ᶠ v → Rises (mean u v) (clampᶠ v) (1 /2^ 1 *ᶠ (v -ᶠ u))
       steep h =
           let ρ = u ∷ v ∷ 1 /2^ 1 ∷ [] in
           let R = reps ρ in
@@ -136,16 +155,14 @@ module _ (u v : Fraction) (le : u ≤ᶠ v) where
           (le-cong (sym≈ (trans≈ (mul-comm (v -ᶠ u) (natᶠ 0)) (zero-mul (v -ᶠ u)))) (sym≈ over-last) (rise-nonneg v u)) in
           let b : clampᶠ v -ᶠ mean u v ≤ᶠ 1 /2^ 1 *ᶠ (v -ᶠ u) = cancel-le (clampᶠ v -ᶠ mean u v) (1 /2^ 1 *ᶠ (v -ᶠ u)) (v -ᶠ u) (sub-above h)
           (le-cong (sym≈ over-last) (ring ρ {x = 1 /2^ 1 *ᶠ ((u -ᶠ v) *ᶠ (u -ᶠ v))} {y = (v -ᶠ u) *ᶠ (1 /2^ 1 *ᶠ (v -ᶠ u))} (search rep) (search rep) tt) (rise-le v u)) in
-          over (clampᶠ v ∷ mean u v ∷ natᶠ 0 ∷ 1 /2^ 1 *ᶠ (v -ᶠ u) ∷ []) (λ N n K M O J. (
-            le-at N K (add-at N M J) n (omega (arith, at-le N (sub-at N K M) J b)),
-            le-at N M K n (omega (arith, O .is, at-le N O (sub-at N K M) a)),
-          ))
+          rises (mean u v) (clampᶠ v) (1 /2^ 1 *ᶠ (v -ᶠ u)) a b
 
-      go : (v ≤ᶠ u) ⊎ (u <ᶠ v) → (clampᶠ v ≤ᶠ mean u v +ᶠ 1 /2^ 1 *ᶠ (v -ᶠ u)) × (mean u v ≤ᶠ clampᶠ v)
+      go : (v ≤ᶠ u) ⊎ (u <ᶠ v) → Rises (mean u v) (clampᶠ v) (1 /2^ 1 *ᶠ (v -ᶠ u))
       go (inl h) = flat (antisym le h)
       go (inr h) = steep h
 
--- ---- three numbers in order: the mean over all is the weighed mean of the two means, and these differ by at most half the whole step
+-- ---- three numbers in order: the mean over all is the weighed mean of the two means, and these differ by at most
+-- half the whole step
 module _ (a b c : Fraction) (p : a ≤ᶠ b) (q : b ≤ᶠ c) where
   abbrev P : Fraction
   P = mean a b
@@ -157,13 +174,21 @@ module _ (a b c : Fraction) (p : a ≤ᶠ b) (q : b ≤ᶠ c) where
   M = mean a c
 
   -- by way of the held b
-  turn : (P ≤ᶠ Q) × (Q ≤ᶠ P +ᶠ 1 /2^ 1 *ᶠ (c -ᶠ a))
+  turn : Rises P Q (1 /2^ 1 *ᶠ (c -ᶠ a))
   turn =
       let f = at-last a b p in
       let l = at-first b c q in (
-        trans (f .1) (l .0),
+        trans (f .0) (l .0),
         over (P ∷ Q ∷ clampᶠ b ∷ a ∷ b ∷ c ∷ 1 /2^ 1 *ᶠ (b -ᶠ a) ∷ 1 /2^ 1 *ᶠ (c -ᶠ b) ∷ 1 /2^ 1 *ᶠ (c -ᶠ a) ∷ []) (λ N n X Y K A B C I J S.
-            le-at N Y (add-at N X S) n (omega (arith, scale-at N (1 /2^ 1) (sub-at N B A) I, scale-at N (1 /2^ 1) (sub-at N C B) J, scale-at N (1 /2^ 1) (sub-at N C A) S, at-le N K (add-at N X I) (f .0), at-le N Y (add-at N K J) (l .1)))),
+            le-at N Y (add-at N X S) n
+            (omega (
+              arith,
+              scale-at N (1 /2^ 1) (sub-at N B A) I,
+              scale-at N (1 /2^ 1) (sub-at N C B) J,
+              scale-at N (1 /2^ 1) (sub-at N C A) S,
+              at-le N K (add-at N X I) (f .1),
+              at-le N Y (add-at N K J) (l .1),
+            ))),
       )
 
   -- (c - a) M is (b - a) P + (c - b) Q
@@ -198,37 +223,37 @@ module _ (a b c : Fraction) (p : a ≤ᶠ b) (q : b ≤ᶠ c) where
         cancel-le x (1 /2^ 1 *ᶠ s) (c -ᶠ a) w (le-cong (sym≈ e) (ring ρ {x = s *ᶠ (1 /2^ 1 *ᶠ (c -ᶠ a))} {y = (c -ᶠ a) *ᶠ (1 /2^ 1 *ᶠ s)} (search rep) (search rep) tt) (mul-mono z d)),
       )
 
-  left : (P ≤ᶠ M) × (M ≤ᶠ P +ᶠ 1 /2^ 1 *ᶠ (c -ᶠ b))
+  left : Rises P M (1 /2^ 1 *ᶠ (c -ᶠ b))
   left = go (le-or-lt c a)
     where
-      go : (c ≤ᶠ a) ⊎ (a <ᶠ c) → (P ≤ᶠ M) × (M ≤ᶠ P +ᶠ 1 /2^ 1 *ᶠ (c -ᶠ b))
+      go : (c ≤ᶠ a) ⊎ (a <ᶠ c) → Rises P M (1 /2^ 1 *ᶠ (c -ᶠ b))
       go (inl h) =
           let e : c ≈ᶠ b = antisym (trans h p) q in
-          let m : M ≈ᶠ P = mean-cong (refl≈ a) e in
-          (of-eq (sym≈ m), over (P ∷ M ∷ b ∷ c ∷ 1 /2^ 1 *ᶠ (c -ᶠ b) ∷ []) (λ N n X Y B C J. le-at N Y (add-at N X J) n (omega (arith, at-eq N Y X m, at-eq N C B e, scale-at N (1 /2^ 1) (sub-at N C B) J))))
-      go (inr h) = let d = part-of (c -ᶠ b) (M -ᶠ P) (sub-nonneg q) (sub-above h) beyond-left in
-          over (P ∷ M ∷ natᶠ 0 ∷ 1 /2^ 1 *ᶠ (c -ᶠ b) ∷ []) (λ N n X Y O J. (le-at N X Y n (omega (arith, O .is, at-le N O (sub-at N Y X) (d .0))), le-at N Y (add-at N X J) n (omega (arith, at-le N (sub-at N Y X) J (d .1)))))
+          rises-none P M b c (mean-cong (refl≈ a) e) e
+      go (inr h) =
+          let d = part-of (c -ᶠ b) (M -ᶠ P) (sub-nonneg q) (sub-above h) beyond-left in
+          rises P M (1 /2^ 1 *ᶠ (c -ᶠ b)) (d .0) (d .1)
 
-  right : (M ≤ᶠ Q) × (Q ≤ᶠ M +ᶠ 1 /2^ 1 *ᶠ (b -ᶠ a))
+  right : Rises M Q (1 /2^ 1 *ᶠ (b -ᶠ a))
   right = go (le-or-lt c a)
     where
-      go : (c ≤ᶠ a) ⊎ (a <ᶠ c) → (M ≤ᶠ Q) × (Q ≤ᶠ M +ᶠ 1 /2^ 1 *ᶠ (b -ᶠ a))
+      go : (c ≤ᶠ a) ⊎ (a <ᶠ c) → Rises M Q (1 /2^ 1 *ᶠ (b -ᶠ a))
       go (inl h) =
           let e : b ≈ᶠ a = antisym (trans q h) p in
-          let m : Q ≈ᶠ M = mean-cong e (refl≈ c) in
-          (of-eq (sym≈ m), over (M ∷ Q ∷ a ∷ b ∷ 1 /2^ 1 *ᶠ (b -ᶠ a) ∷ []) (λ N n X Y A B J. le-at N Y (add-at N X J) n (omega (arith, at-eq N Y X m, at-eq N B A e, scale-at N (1 /2^ 1) (sub-at N B A) J))))
-      go (inr h) = let d = part-of (b -ᶠ a) (Q -ᶠ M) (sub-nonneg p) (sub-above h) short-right in
-          over (M ∷ Q ∷ natᶠ 0 ∷ 1 /2^ 1 *ᶠ (b -ᶠ a) ∷ []) (λ N n X Y O J. (le-at N X Y n (omega (arith, O .is, at-le N O (sub-at N Y X) (d .0))), le-at N Y (add-at N X J) n (omega (arith, at-le N (sub-at N Y X) J (d .1)))))
+          rises-none M Q a b (mean-cong e (refl≈ c)) e
+      go (inr h) =
+          let d = part-of (b -ᶠ a) (Q -ᶠ M) (sub-nonneg p) (sub-above h) short-right in
+          rises M Q (1 /2^ 1 *ᶠ (b -ᶠ a)) (d .0) (d .1)
 
 -- ---- the mean grows with u, by at most half as much
 pub mean-grows : (u w v : Fraction) → u ≤ᶠ w → (mean u v ≤ᶠ mean w v) × (mean w v ≤ᶠ mean u v +ᶠ 1 /2^ 1 *ᶠ (w -ᶠ u))
 mean-grows u w v le = go (le-or-lt v u) (le-or-lt v w)
   where
     -- the same of other means that are worth these
-    worth : {x y : Fraction} → x ≈ᶠ mean u v → y ≈ᶠ mean w v → (x ≤ᶠ y) × (y ≤ᶠ x +ᶠ 1 /2^ 1 *ᶠ (w -ᶠ u)) → (mean u v ≤ᶠ mean w v) × (mean w v ≤ᶠ mean u v +ᶠ 1 /2^ 1 *ᶠ (w -ᶠ u))
+    worth : {x y : Fraction} → x ≈ᶠ mean u v → y ≈ᶠ mean w v → Rises x y (1 /2^ 1 *ᶠ (w -ᶠ u)) → Rises (mean u v) (mean w v) (1 /2^ 1 *ᶠ (w -ᶠ u))
     worth e f h = (le-cong e f (h .0), le-cong f (cong-add e (refl≈ (1 /2^ 1 *ᶠ (w -ᶠ u)))) (h .1))
 
-    go : (v ≤ᶠ u) ⊎ (u <ᶠ v) → (v ≤ᶠ w) ⊎ (w <ᶠ v) → (mean u v ≤ᶠ mean w v) × (mean w v ≤ᶠ mean u v +ᶠ 1 /2^ 1 *ᶠ (w -ᶠ u))
+    go : (v ≤ᶠ u) ⊎ (u <ᶠ v) → (v ≤ᶠ w) ⊎ (w <ᶠ v) → Rises (mean u v) (mean w v) (1 /2^ 1 *ᶠ (w -ᶠ u))
     go (inl h) k = worth (mean-sym v u) (mean-sym v w) (left v u w h le)
     go (inr h) (inl k) = worth (refl≈ (mean u v)) (mean-sym v w) (turn u v w (of-lt h) k)
     go (inr h) (inr k) = right u w v le (of-lt k)
@@ -255,11 +280,12 @@ mean-near-second {v} {w} {e} u h = let d = mean-near-first u h in over (mean u v
 
 -- both: no more than the larger error
 pub mean-near : {u v U W e : Fraction} → Near u U e → Near v W e → Near (mean u v) (mean U W) e
-mean-near {u} {v} {U} {W} {e} h k = near-weaken (near-trans (mean-near-first v h) (mean-near-second U k)) (over (e ∷ 1 /2^ 1 *ᶠ e ∷ []) (λ N n E I. le-at N (add-at N I I) E n (omega (arith, scale-at N (1 /2^ 1) E I))))
+mean-near {u} {v} {U} {W} {e} h k =
+    near-weaken (near-trans (mean-near-first v h) (mean-near-second U k)) (over (e ∷ 1 /2^ 1 *ᶠ e ∷ []) (λ N n E I. le-at N (add-at N I I) E n (omega (arith, scale-at N (1 /2^ 1) E I))))
 
 -- ---- between the held ends, so from 0 to 1
 pub mean-between : (u v : Fraction) → u ≤ᶠ v → (clampᶠ u ≤ᶠ mean u v) × (mean u v ≤ᶠ clampᶠ v)
-mean-between u v h = ((at-first u v h) .0, (at-last u v h) .1)
+mean-between u v h = ((at-first u v h) .0, (at-last u v h) .0)
 
 pub mean-range : (u v : Fraction) → (natᶠ 0 ≤ᶠ mean u v) × (mean u v ≤ᶠ natᶠ 1)
 mean-range u v = go (le-or-lt u v)

@@ -1,4 +1,5 @@
--- The share of a cell that an edge covers where it crosses a row, apart from the height: the mean of what goes evenly from u to v, held between 0 and 1. Definitions only.
+-- The share of a cell that an edge covers where it crosses a row, apart from the height: the mean of what goes evenly
+-- from u to v, held between 0 and 1. Definitions only.
 use mathlib.Core.Bool.{_&&_, cond}
 use Prim.Native.Nat.{ℕ, suc}
 use Rattle.fraction.specs.Fraction.{Fraction, leᵇ, natᶠ, _-ᶠ_, _/ᶠ_, clampᶠ}

@@ -1,4 +1,5 @@
--- Document 01's part of an edge in a cell, by G: its height in the row times G of the two crossings, with its sign. Assumes nothing.
+-- Document 01's part of an edge in a cell, by G: its height in the row times G of the two crossings, with its sign.
+-- Assumes nothing.
 use mathlib.Core.Path.{_≡_, refl}
 use mathlib.Core.Logic.{_⊎_, inl, inr}
 use mathlib.Core.List.{[], _∷_}
@@ -44,7 +45,8 @@ down-none a b c r h = if-not-less (top a r) (bottom b r) (integral (top a r) (bo
 -- ---- with the sign
 pub part-up : (a b : ExactPoint) (c r : ℕ) → b .y <ᶠ a .y → part a b c r ≡ negᶠ (downPart b a c r)
 unfolding exactPart
-part-up a b c r h = rw (if-not-less (a .y) (b .y) (downPart a b c r) (cond (ltᵇ (b .y) (a .y)) (negᶠ (downPart b a c r)) (natᶠ 0)) (of-lt h), if-less (b .y) (a .y) (negᶠ (downPart b a c r)) (natᶠ 0) h) refl
+part-up a b c r h =
+    rw (if-not-less (a .y) (b .y) (downPart a b c r) (cond (ltᵇ (b .y) (a .y)) (negᶠ (downPart b a c r)) (natᶠ 0)) (of-lt h), if-less (b .y) (a .y) (negᶠ (downPart b a c r)) (natᶠ 0) h) refl
 
 pub part-down : (a b : ExactPoint) (c r : ℕ) → a .y <ᶠ b .y → part a b c r ≡ downPart a b c r
 unfolding exactPart
@@ -52,7 +54,12 @@ part-down a b c r h = if-less (a .y) (b .y) (downPart a b c r) (cond (ltᵇ (b .
 
 pub part-level : (a b : ExactPoint) (c r : ℕ) → a .y ≈ᶠ b .y → part a b c r ≡ natᶠ 0
 unfolding exactPart
-part-level a b c r e = rw (if-not-less (a .y) (b .y) (downPart a b c r) (cond (ltᵇ (b .y) (a .y)) (negᶠ (downPart b a c r)) (natᶠ 0)) (of-eq (sym≈ e)), if-not-less (b .y) (a .y) (negᶠ (downPart b a c r)) (natᶠ 0) (of-eq e)) refl
+part-level a b c r e =
+    rw (
+      if-not-less (a .y) (b .y) (downPart a b c r) (cond (ltᵇ (b .y) (a .y)) (negᶠ (downPart b a c r)) (natᶠ 0))
+          (of-eq (sym≈ e)),
+      if-not-less (b .y) (a .y) (negᶠ (downPart b a c r)) (natᶠ 0) (of-eq e),
+    ) refl
 
 -- ---- the part of an edge that crosses the row, down and up
 pub part-down-is : (a b : ExactPoint) (c r : ℕ) → a .y <ᶠ b .y → top a r <ᶠ bottom b r → part a b c r ≡ share a b c r
@@ -91,7 +98,8 @@ crossing-start a b =
 
 pub crossing-end : (a b : ExactPoint) → a .y <ᶠ b .y → crossing a b (b .y) ≈ᶠ b .x
 unfolding slope-of
-crossing-end a b l = trans≈ (crossing-is a b (b .y)) (trans≈ (cong-add (refl≈ (a .x)) (trans≈ (mul-comm (b .y -ᶠ a .y) (slope-of a b)) (div-mul (b .x -ᶠ a .x) (b .y -ᶠ a .y) (above-not (sub-above l)))))
+crossing-end a b l =
+    trans≈ (crossing-is a b (b .y)) (trans≈ (cong-add (refl≈ (a .x)) (trans≈ (mul-comm (b .y -ᶠ a .y) (slope-of a b)) (div-mul (b .x -ᶠ a .x) (b .y -ᶠ a .y) (above-not (sub-above l)))))
     (over (a .x ∷ b .x ∷ []) (λ N n A B. eq-at N (add-at N A (sub-at N B A)) B n (omega arith))))
 
 -- from one height to another, by the slope
@@ -111,12 +119,14 @@ crossing-ge a b p h q z i j f g = go (le-or-lt (natᶠ 0) (slope-of a b))
 
     go : (natᶠ 0 ≤ᶠ s) ⊎ (s <ᶠ natᶠ 0) → z ≤ᶠ crossing a b h
     go (inl u) = let m = mul-nonneg (sub-nonneg i) u in
-        over (z ∷ crossing a b p ∷ crossing a b h ∷ (h -ᶠ p) *ᶠ s ∷ natᶠ 0 ∷ []) (λ N n Z P X J O. le-at N Z X n (omega (arith, O .is, at-le N Z P f, at-le N O J m, at-eq N X (add-at N P J) (crossing-step a b p h))))
+        over (z ∷ crossing a b p ∷ crossing a b h ∷ (h -ᶠ p) *ᶠ s ∷ natᶠ 0 ∷ [])
+        (λ N n Z P X J O. le-at N Z X n (omega (arith, O .is, at-le N Z P f, at-le N O J m, at-eq N X (add-at N P J) (crossing-step a b p h))))
     go (inr u) =
         let ρ = s ∷ h ∷ q ∷ [] in
         let R = reps ρ in
         let m = trans (mul-nonneg (sub-nonneg j) (sub-nonneg (of-lt u))) (of-eq (ring ρ {x = (q -ᶠ h) *ᶠ (natᶠ 0 -ᶠ s)} {y = (h -ᶠ q) *ᶠ s} (search rep) (search rep) tt)) in
-        over (z ∷ crossing a b q ∷ crossing a b h ∷ (h -ᶠ q) *ᶠ s ∷ natᶠ 0 ∷ []) (λ N n Z P X J O. le-at N Z X n (omega (arith, O .is, at-le N Z P g, at-le N O J m, at-eq N X (add-at N P J) (crossing-step a b q h))))
+        over (z ∷ crossing a b q ∷ crossing a b h ∷ (h -ᶠ q) *ᶠ s ∷ natᶠ 0 ∷ [])
+        (λ N n Z P X J O. le-at N Z X n (omega (arith, O .is, at-le N Z P g, at-le N O J m, at-eq N X (add-at N P J) (crossing-step a b q h))))
 
 pub crossing-le : (a b : ExactPoint) (p h q z : Fraction) → p ≤ᶠ h → h ≤ᶠ q → crossing a b p ≤ᶠ z → crossing a b q ≤ᶠ z → crossing a b h ≤ᶠ z
 crossing-le a b p h q z i j f g = go (le-or-lt (natᶠ 0) (slope-of a b))
@@ -130,13 +140,15 @@ crossing-le a b p h q z i j f g = go (le-or-lt (natᶠ 0) (slope-of a b))
         let R = reps ρ in
         let m = mul-nonneg (sub-nonneg j) u in
         let e : (h -ᶠ q) *ᶠ s ≈ᶠ natᶠ 0 -ᶠ (q -ᶠ h) *ᶠ s = ring ρ {x = (h -ᶠ q) *ᶠ s} {y = natᶠ 0 -ᶠ (q -ᶠ h) *ᶠ s} (search rep) (search rep) tt in
-        over (z ∷ crossing a b q ∷ crossing a b h ∷ (h -ᶠ q) *ᶠ s ∷ (q -ᶠ h) *ᶠ s ∷ natᶠ 0 ∷ []) (λ N n Z P X J K O. le-at N X Z n (omega (arith, O .is, at-le N P Z g, at-le N O K m, at-eq N J (sub-at N O K) e, at-eq N X (add-at N P J) (crossing-step a b q h))))
+        over (z ∷ crossing a b q ∷ crossing a b h ∷ (h -ᶠ q) *ᶠ s ∷ (q -ᶠ h) *ᶠ s ∷ natᶠ 0 ∷ [])
+        (λ N n Z P X J K O. le-at N X Z n (omega (arith, O .is, at-le N P Z g, at-le N O K m, at-eq N J (sub-at N O K) e, at-eq N X (add-at N P J) (crossing-step a b q h))))
     go (inr u) =
         let ρ = s ∷ h ∷ p ∷ [] in
         let R = reps ρ in
         let m = mul-nonneg (sub-nonneg i) (sub-nonneg (of-lt u)) in
         let e : (h -ᶠ p) *ᶠ s ≈ᶠ natᶠ 0 -ᶠ (h -ᶠ p) *ᶠ (natᶠ 0 -ᶠ s) = ring ρ {x = (h -ᶠ p) *ᶠ s} {y = natᶠ 0 -ᶠ (h -ᶠ p) *ᶠ (natᶠ 0 -ᶠ s)} (search rep) (search rep) tt in
-        over (z ∷ crossing a b p ∷ crossing a b h ∷ (h -ᶠ p) *ᶠ s ∷ (h -ᶠ p) *ᶠ (natᶠ 0 -ᶠ s) ∷ natᶠ 0 ∷ []) (λ N n Z P X J K O. le-at N X Z n (omega (arith, O .is, at-le N P Z f, at-le N O K m, at-eq N J (sub-at N O K) e, at-eq N X (add-at N P J) (crossing-step a b p h))))
+        over (z ∷ crossing a b p ∷ crossing a b h ∷ (h -ᶠ p) *ᶠ s ∷ (h -ᶠ p) *ᶠ (natᶠ 0 -ᶠ s) ∷ natᶠ 0 ∷ [])
+        (λ N n Z P X J K O. le-at N X Z n (omega (arith, O .is, at-le N P Z f, at-le N O K m, at-eq N J (sub-at N O K) e, at-eq N X (add-at N P J) (crossing-step a b p h))))
 
 -- on the edge the crossing is between its ends
 pub crossing-within : (a b : ExactPoint) (h m : Fraction) → a .y <ᶠ b .y → a .y ≤ᶠ h → h ≤ᶠ b .y → Within (a .x) m → Within (b .x) m → Within (crossing a b h) m

@@ -1,5 +1,5 @@
--- H and its slope, t held between 0 and 1 (K below), by pieces; then the two facts that replace the pieces: 2 H(t) = 2 t K - K * K, and (t - K) * (K - j) is not negative
--- for any j from 0 to 1. Assumes nothing.
+-- H and its slope, t held between 0 and 1 (K below), by pieces; then the two facts that replace the pieces: 2 H(t) =
+-- 2 t K - K * K, and (t - K) * (K - j) is not negative for any j from 0 to 1. Assumes nothing.
 use mathlib.Core.Logic.{_⊎_, inl, inr}
 use mathlib.Core.List.{[], _∷_}
 use mathlib.Core.Bool.{Bool, true, false, not, cond}
@@ -43,7 +43,8 @@ H-high t h = go (leᵇ t (natᶠ 0)) (leᵇ t (natᶠ 1)) (yes≤ t (natᶠ 0)) 
     go true b f g = absurd (over (t ∷ natᶠ 0 ∷ natᶠ 1 ∷ []) (λ N n A O I. omega (arith, n, O .is, I .is, at-le N A O (f tt), at-le N I A h)))
     go false true f g =
         let e = antisym (g tt) h in
-        trans≈ (trans≈ (cong-mul (cong-mul e e) (refl≈ (1 /2^ 1))) (unfold _*ᶠ_ in lit≈ tt)) (over (t ∷ natᶠ 1 ∷ 1 /2^ 1 ∷ []) (λ N n A O P. eq-at N P (sub-at N A P) n (omega (arith, O .is, P .is, at-eq N A O e))))
+        trans≈ (trans≈ (cong-mul (cong-mul e e) (refl≈ (1 /2^ 1))) (unfold _*ᶠ_ in lit≈ tt))
+        (over (t ∷ natᶠ 1 ∷ 1 /2^ 1 ∷ []) (λ N n A O P. eq-at N P (sub-at N A P) n (omega (arith, O .is, P .is, at-eq N A O e))))
     go false false f g = refl≈ (t -ᶠ 1 /2^ 1)
 
 -- ---- which piece
@@ -78,7 +79,8 @@ H-by t = go (piece t)
       where
         -- x * x / 2 is x * x less x * x / 2
         halves : (x : Fraction) → x *ᶠ x *ᶠ 1 /2^ 1 ≈ᶠ by x x
-        halves x = over (x *ᶠ x ∷ 1 /2^ 1 *ᶠ (x *ᶠ x) ∷ x *ᶠ x *ᶠ 1 /2^ 1 ∷ []) (λ N n S J P. eq-at N P (sub-at N S P) n (omega (arith, scale-at N (1 /2^ 1) S J, at-eq N J P (mul-comm (1 /2^ 1) (x *ᶠ x)))))
+        halves x =
+            over (x *ᶠ x ∷ 1 /2^ 1 *ᶠ (x *ᶠ x) ∷ x *ᶠ x *ᶠ 1 /2^ 1 ∷ []) (λ N n S J P. eq-at N P (sub-at N S P) n (omega (arith, scale-at N (1 /2^ 1) S J, at-eq N J P (mul-comm (1 /2^ 1) (x *ᶠ x)))))
     go (high a) = let ρ = t ∷ 1 /2^ 1 ∷ [] in let R = reps ρ in
         trans≈ (H-high t a) (trans≈ (ring ρ {x = t -ᶠ 1 /2^ 1} {y = by t (natᶠ 1)} (search rep) (search rep) tt) (sym≈ (by-cong t (clamp-above t a))))
 
@@ -91,7 +93,8 @@ outward t j p q = go (piece t)
 
     go : Piece t → natᶠ 0 ≤ᶠ (t -ᶠ clampᶠ t) *ᶠ (clampᶠ t -ᶠ j)
     go (low a) = let ρ = t ∷ j ∷ [] in let R = reps ρ in
-        trans (mul-nonneg (sub-nonneg a) p) (of-eq (trans≈ (ring ρ {x = (natᶠ 0 -ᶠ t) *ᶠ j} {y = (t -ᶠ natᶠ 0) *ᶠ (natᶠ 0 -ᶠ j)} (search rep) (search rep) tt) (sym≈ (at-k (natᶠ 0) (clamp-below t a)))))
+        trans (mul-nonneg (sub-nonneg a) p)
+        (of-eq (trans≈ (ring ρ {x = (natᶠ 0 -ᶠ t) *ᶠ j} {y = (t -ᶠ natᶠ 0) *ᶠ (natᶠ 0 -ᶠ j)} (search rep) (search rep) tt) (sym≈ (at-k (natᶠ 0) (clamp-below t a)))))
     go (inside a b) = let ρ = t ∷ j ∷ [] in let R = reps ρ in
         of-eq (trans≈ (ring ρ {x = natᶠ 0} {y = (t -ᶠ t) *ᶠ (t -ᶠ j)} (search rep) (search rep) tt) (sym≈ (at-k t (clamp-inside t a b))))
     go (high a) = trans (mul-nonneg (sub-nonneg a) (sub-nonneg q)) (of-eq (sym≈ (at-k (natᶠ 1) (clamp-above t a))))

@@ -3,7 +3,7 @@ use mathlib.Core.List.{List, [], _∷_}
 use mathlib.Core.Bool.{cond}
 use Prim.Native.Nat.{ℕ, _+_}
 use Rattle.fraction.specs.Fraction.{Fraction, natᶠ, _/2^_, _+ᶠ_, minᶠ}
-use Rattle.words.specs.Words.{Group}
+use Rattle.word_list.specs.Words.{Group}
 use Rattle.winding.specs.Winding.{ExactEdge, exactEdges, crosses, groupShare}
 
 -- 'A cell's share is the sum of its groups' shares, at most 1.'
@@ -15,7 +15,8 @@ sumOfShares (g ∷ gs) column row = groupShare g column row +ᶠ sumOfShares gs 
 abbrev pub drawnShare : List Group → ℕ → ℕ → Fraction
 drawnShare gs column row = minᶠ (sumOfShares gs column row) (natᶠ 1)
 
--- 'Its allowed difference is 1 for each edge that crosses its row, plus a half for each group. Without groups both are 0.'
+-- 'Its allowed difference is 1 for each edge that crosses its row, plus a half for each group. Without groups both
+-- are 0.'
 abbrev pub crossings : List ExactEdge → ℕ → ℕ
 crossings [] row = 0
 crossings (e ∷ es) row = cond (crosses e row) 1 0 + crossings es row

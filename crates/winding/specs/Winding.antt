@@ -1,5 +1,5 @@
--- The exact winding of a cell (document 01, 'Exact winding'), in fractions of whole numbers, from that paragraph alone: nothing of the engine's enters.
--- Of the word list it takes the points as they are read. Definitions only.
+-- The exact winding of a cell (document 01, 'Exact winding'), in fractions of whole numbers, from that paragraph
+-- alone: nothing of the engine's enters. Of the word list it takes the points as they are read. Definitions only.
 use mathlib.Core.List.{List, [], _∷_, _++_}
 use mathlib.Core.Bool.{Bool, cond, _&&_}
 use Prim.Native.Nat.{ℕ, suc, _*_, _%_}
@@ -7,7 +7,7 @@ use lib.Pow.{pow-pos}
 use lib.IntN.{ℤ}
 use Rattle.fraction.specs.Whole.{natʷ, sizeʷ, ofℤ}
 use Rattle.fraction.specs.Fraction.{Fraction, leᵇ, ltᵇ, natᶠ, _/2^_, _+ᶠ_, _-ᶠ_, _*ᶠ_, _/ᶠ_, negᶠ, absᶠ, minᶠ, maxᶠ, clampᶠ}
-use Rattle.words.specs.Words.{Point, Group, evenOdd}
+use Rattle.word_list.specs.Words.{Point, Group, evenOdd}
 
 -- ---- edges
 
@@ -63,8 +63,8 @@ unfoldable pub integral : Fraction → Fraction → Fraction → Fraction → Fr
 unfolding H clampᶠ _-ᶠ_ _*ᶠ_ _/ᶠ_
 integral p q u v = (q -ᶠ p) *ᶠ cond (leᵇ u v && leᵇ v u) (clampᶠ u) ((H v -ᶠ H u) /ᶠ (v -ᶠ u))
 
--- 'let the overlap run from height p to a greater height q, u be c + 1 − x(p) and v be c + 1 − x(q)': of an edge from its upper end to its lower. Nothing where
--- edge and row do not overlap
+-- 'let the overlap run from height p to a greater height q, u be c + 1 − x(p) and v be c + 1 − x(q)': of an edge from
+-- its upper end to its lower. Nothing where edge and row do not overlap
 unfoldable pub downPart : ExactPoint → ExactPoint → ℕ → ℕ → Fraction
 unfolding integral crossing minᶠ maxᶠ _-ᶠ_
 downPart a b column row =

@@ -7,13 +7,17 @@ use lib.Dec.{ltb}
 use lib.IntN.{ℤ, pos}
 use lib.ListN.{length, getD, drop, length-drop}
 use borrow.Author.Tests.{ltb-false, le-ltb}
+use Rattle.fault.specs.declared.Fault.{Fault}
 use Rattle.fault.specs.declared.Fault.the-variants.{CountOutOfRange}
-use Rattle.words.specs.Words.{Point, Group, pointsOf, pointsIn, Read, ok, fault, andThen, readCount, readPoint, readPoints, readContour, readContours, readGroup, readGroups, readWords, readOr}
-use Rattle.words.specs.Scan.{countedOf, Fine, endOf, noGroup}
+use Rattle.word_list.specs.Words.{Point, Group, pointsOf, pointsIn, Read, ok, fault, andThen, readOr}
+use Rattle.word_list.specs.Words.{readCount, readPoint, readPoints, readContour, readContours, readGroup, readGroups, readWords}
+use Rattle.words.specs.Scan.{countedOf, Fine, pointsFrom, contoursFrom, endOf, noGroup}
+use Rattle.words.specs.declared.Counted.{Counted}
 use Rattle.words.specs.declared.Counted.the-variants as counted
 use Rattle.words.specs.declared.Checked.the-variants as checked
-use Rattle.words.proofs.Ends.{Both, then-ok, cond-ok, Ended, ended-group, placed}
-use Rattle.words.proofs.Steps.{at-end, at-word, pointAt, PointThere, point-there, point-read, points-length, group-few, count-next}
+use Rattle.word_list.proofs.Ends.{Both, then-ok, cond-ok, Ended, ended-group, placed}
+use Rattle.words.proofs.Steps.{at-end, at-word, pointAt, PointThere, point-there, point-read, count-next}
+use Rattle.word_list.proofs.Few.{points-length, group-few}
 
 -- what was read without a fault
 pub fine-read : {A : Type 0} (other : A) (r : Read A) → Fine r → (rest : List ℤ) × (r ≡ ok (readOr other r) rest)
@@ -106,62 +110,77 @@ group-before b c l (w ∷ ws) g rest e =
 
 -- ---- a contour and the others
 
--- what `n` contours from a place on begin with: a count, its points, and the other contours
+-- what `n` contours from a place on begin with: a contour of `count` points, and the others
+pub record ContourThere (n : ℕ) (ws : List ℤ) (at count : ℕ) : Type 0 where
+  pub points : Fine (readPoints count (drop (at + 1) ws))
+  pub within : at + 1 + 2 * count ≤ length ws
+  pub size : length (pointsFrom ws (at + 1) count) ≡ count
+  pub others : Fine (readContours (n - 1) 0 (drop (at + 1 + 2 * count) ws))
+  pub whole : contoursFrom ws at n ≡ pointsFrom ws (at + 1) count ∷ contoursFrom ws (at + 1 + 2 * count) (n - 1)
+  pub end : endOf (length ws) (readContours n 0 (drop at ws)) ≡ endOf (length ws) (readContours (n - 1) 0 (drop (at + 1 + 2 * count) ws))
+
 pub record NextContour (n : ℕ) (ws : List ℤ) (at : ℕ) : Type 0 where
   pub count : ℕ
   pub read : countedOf (readCount (drop at ws)) ≡ counted.Count count
-  pub points : Fine (readPoints count (drop (at + 1) ws))
-  pub few : count ≤ 2048
-  pub within : at + 1 + 2 * count ≤ length ws
-  pub size : length (readOr [] (readPoints count (drop (at + 1) ws))) ≡ count
-  pub long : readPoints count (drop (at + 1) ws) ≡ ok (readOr [] (readPoints count (drop (at + 1) ws))) (drop (at + 1 + 2 * count) ws)
-  pub others : Fine (readContours (n - 1) 0 (drop (at + 1 + 2 * count) ws))
-  pub whole : readOr [] (readContours n 0 (drop at ws))
-      ≡ readOr [] (readPoints count (drop (at + 1) ws)) ∷ readOr [] (readContours (n - 1) 0 (drop (at + 1 + 2 * count) ws))
-  pub end : endOf (length ws) (readContours n 0 (drop at ws)) ≡ endOf (length ws) (readContours (n - 1) 0 (drop (at + 1 + 2 * count) ws))
+  pub there : ContourThere n ws at count
 
 pub next-contour : (n : ℕ) (ws : List ℤ) (at : ℕ) → 0 < n → Fine (readContours n 0 (drop at ws)) → NextContour n ws at
 unfolding readContours readContour
 next-contour zero ws at h f = absurd (omega arith)
 next-contour (suc n) ws at h f =
     let r = fine-read [] (readContours (suc n) 0 (drop at ws)) f in
-    let cs = readOr [] (readContours (suc n) 0 (drop at ws)) in
+    let cs = contoursFrom ws at (suc n) in
     let x = then-ok (readContour 0 (drop at ws)) _ cs (r .0) (r .1) in
     let y = then-ok (readContours n (0 + length (x .value)) (x .rest)) _ cs (r .0) (x .second) in
     let k = then-ok (readCount (drop at ws)) _ (x .value) (x .rest) (x .first) in
     let m = k .value in
     let p = cond-ok (ltb 2048 (0 + m)) CountOutOfRange (readPoints m (k .rest)) (x .value) (x .rest) (k .second) in
-    let b = (count-next ws at m (k .rest) (k .first)) .1 in
-    let q : readPoints m (drop (at + 1) ws) ≡ ok (x .value) (x .rest) = ap (readPoints m) (sym b) ∙ p .1 in
+    let b = count-next ws at m (k .rest) (k .first) in
+    let q : readPoints m (drop (at + 1) ws) ≡ ok (x .value) (x .rest) = ap (readPoints m) (sym (b .1)) ∙ p .1 in
     let v = read-value [] (readPoints m (drop (at + 1) ws)) (x .value) (x .rest) q in
     let j = points-there m ws (at + 1) (x .value) (x .rest) q in
-    let t = j .behind in
     let o = contours-before n (0 + length (x .value)) 0 (omega arith) (x .rest) (y .value) (y .rest) (y .first) in
-    let d : readContours n 0 (drop (at + 1 + 2 * m) ws) ≡ ok (y .value) (y .rest) = ap (readContours n 0) (sym t) ∙ o in
     let s = y .second in
     let u : cs ≡ x .value ∷ y .value = cc in
     let w : y .rest ≡ r .0 = cc in
     let z : suc n - 1 ≡ n = omega arith in
-    let c : readContours (suc n - 1) 0 (drop (at + 1 + 2 * m) ws) ≡ ok (y .value) (y .rest) = ap (λ (i : ℕ). readContours i 0 (drop (at + 1 + 2 * m) ws)) z ∙ d in
+    let others = readContours (suc n - 1) 0 (drop (at + 1 + 2 * m) ws) in
+    let c : others ≡ ok (y .value) (y .rest) = rw z (ap (readContours n 0) (sym (j .behind)) ∙ o) in
+    let more = read-value [] others (y .value) (y .rest) c in
     record {
       count = m;
       read = ap countedOf (k .first);
-      points = read-fine (readPoints m (drop (at + 1) ws)) (x .value) (x .rest) q;
-      few = omega (arith, ltb-false 2048 (0 + m) (p .0));
-      within = let b = count-next ws at m (k .rest) (k .first) .0 in reach m ws (at + 1) (omega arith) (j .there);
-      size = ap length v ∙ points-length m (drop (at + 1) ws) (x .value) (x .rest) q;
-      long = q ∙ ap (λ (ps : List Point). ok ps (x .rest)) (sym v) ∙ ap (ok (readOr [] (readPoints m (drop (at + 1) ws)))) t;
-      others = read-fine (readContours (suc n - 1) 0 (drop (at + 1 + 2 * m) ws)) (y .value) (y .rest) c;
-      whole = u
-          ∙ ap (λ (c : List Point). c ∷ y .value) (sym v)
-          ∙ ap (λ (cs : List (List Point)). readOr [] (readPoints m (drop (at + 1) ws)) ∷ cs) (sym (read-value [] (readContours (suc n - 1) 0 (drop (at + 1 + 2 * m) ws)) (y .value) (y .rest) c));
-      end = read-end (length ws) (readContours (suc n) 0 (drop at ws)) cs (r .0) (r .1)
-          ∙ ap (λ (l : List ℤ). length ws - length l) (sym w)
-          ∙ sym (read-end (length ws) (readContours (suc n - 1) 0 (drop (at + 1 + 2 * m) ws)) (y .value) (y .rest) c);
+      there = record {
+        points = read-fine (readPoints m (drop (at + 1) ws)) (x .value) (x .rest) q;
+        within = let k = b .0 in reach m ws (at + 1) (omega arith) (j .there);
+        size = ap length v ∙ points-length m (drop (at + 1) ws) (x .value) (x .rest) q;
+        others = read-fine others (y .value) (y .rest) c;
+        whole = u ∙ ap (λ (c : List Point). c ∷ y .value) (sym v)
+            ∙ ap (λ (cs : List (List Point)). pointsFrom ws (at + 1) m ∷ cs) (sym more);
+        end = read-end (length ws) (readContours (suc n) 0 (drop at ws)) cs (r .0) (r .1)
+            ∙ ap (λ (l : List ℤ). length ws - length l) (sym w)
+            ∙ sym (read-end (length ws) others (y .value) (y .rest) c);
+      };
     }
 
+-- its count word says how many points it has, and is not refused
+module _ (n : ℕ) (ws : List ℤ) (at : ℕ) (some : 0 < n) (fine : Fine (readContours n 0 (drop at ws))) {r : Counted}
+    (is : r ≡ countedOf (readCount (drop at ws))) where
+  pub contour-there : {m : ℕ} → r ≡ counted.Count m → ContourThere n ws at m
+  contour-there {m} e =
+      let c = next-contour n ws at some fine in
+      let told = c .read in
+      let same : c .count ≡ m = cc in
+      subst (ContourThere n ws at) same (c .there)
+
+  pub contour-counted : {f : Fault} → r ≡ counted.Refused f → ⊥
+  contour-counted e =
+      let told = (next-contour n ws at some fine) .read in
+      let z : _≡_ {A = ℕ} 0 1 = cc in
+      omega arith
+
 pub no-contour : (n : ℕ) (ws : List ℤ) (at : ℕ) → n ≤ 0 → at ≤ length ws
-    → (readOr [] (readContours n 0 (drop at ws)) ≡ []) × (endOf (length ws) (readContours n 0 (drop at ws)) ≡ at)
+    → (contoursFrom ws at n ≡ []) × (endOf (length ws) (readContours n 0 (drop at ws)) ≡ at)
 unfolding readContours
 no-contour zero ws at h l = (refl, omega (arith, length-drop at ws))
 no-contour (suc n) ws at h l = absurd (omega arith)
@@ -173,7 +192,7 @@ pub record GroupThere (ws : List ℤ) (at : ℕ) : Type 0 where
   pub read : countedOf (readCount (drop (at + 1) ws)) ≡ counted.Count count
   pub contours : Fine (readContours count 0 (drop (at + 2) ws))
   pub within : at + 2 ≤ length ws
-  pub whole : readOr noGroup (readGroup 0 (drop at ws)) ≡ record { rule = getD ws at (pos 0); contours = readOr [] (readContours count 0 (drop (at + 2) ws)) }
+  pub whole : readOr noGroup (readGroup 0 (drop at ws)) ≡ record { rule = getD ws at (pos 0); contours = contoursFrom ws (at + 2) count }
   pub end : endOf (length ws) (readGroup 0 (drop at ws)) ≡ endOf (length ws) (readContours count 0 (drop (at + 2) ws))
 
 group-words : (w : ℤ) (ws : List ℤ) (g : Group) (rest : List ℤ) → readGroup 0 (w ∷ ws) ≡ ok g rest
@@ -207,21 +226,21 @@ group-there ws at h f =
           ∙ sym (read-end (length ws) (readContours m 0 (drop (at + 2) ws)) (y .value) (y .rest) d);
     }
 
--- ---- the groups that are left from a place on
-pub record Left (ws : List ℤ) (at : ℕ) (gs : List Group) : Type 0 where
+-- ---- the groups that remain from a place on
+pub record Remaining (ws : List ℤ) (at : ℕ) (gs : List Group) : Type 0 where
   pub fuel : ℕ
   pub before : ℕ
   pub rest : List ℤ
   pub enough : length ws - at ≤ fuel
   pub read : readGroups fuel before (drop at ws) ≡ ok gs rest
 
-pub left-start : (ws : List ℤ) (gs : List Group) (rest : List ℤ) → readWords ws ≡ ok gs rest → Left ws 0 gs
+pub remaining-start : (ws : List ℤ) (gs : List Group) (rest : List ℤ) → readWords ws ≡ ok gs rest → Remaining ws 0 gs
 unfolding readWords
-left-start ws gs rest e = record { fuel = length ws; before = 0; rest = rest; enough = omega arith; read = e }
+remaining-start ws gs rest e = record { fuel = length ws; before = 0; rest = rest; enough = omega arith; read = e }
 
-pub left-end : (ws : List ℤ) (at : ℕ) (gs : List Group) → length ws ≤ at → Left ws at gs → gs ≡ []
+pub remaining-end : (ws : List ℤ) (at : ℕ) (gs : List Group) → length ws ≤ at → Remaining ws at gs → gs ≡ []
 unfolding readGroups
-left-end ws at gs h l = go (l .fuel) (ap (readGroups (l .fuel) (l .before)) (sym (at-end ws at h)) ∙ l .read)
+remaining-end ws at gs h l = go (l .fuel) (ap (readGroups (l .fuel) (l .before)) (sym (at-end ws at h)) ∙ l .read)
   where
     go : (n : ℕ) → readGroups n (l .before) [] ≡ ok gs (l .rest) → gs ≡ []
     go zero e = cc
@@ -233,9 +252,9 @@ pub record NextGroup (ws : List ℤ) (at : ℕ) (gs : List Group) : Type 0 where
   pub whole : gs ≡ readOr noGroup (readGroup 0 (drop at ws)) ∷ others
   pub forward : at + 2 ≤ endOf (length ws) (readGroup 0 (drop at ws))
   pub within : endOf (length ws) (readGroup 0 (drop at ws)) ≤ length ws
-  pub left : Left ws (endOf (length ws) (readGroup 0 (drop at ws))) others
+  pub remaining : Remaining ws (endOf (length ws) (readGroup 0 (drop at ws))) others
 
-pub next-group : (ws : List ℤ) (at : ℕ) (gs : List Group) → at < length ws → Left ws at gs → NextGroup ws at gs
+pub next-group : (ws : List ℤ) (at : ℕ) (gs : List Group) → at < length ws → Remaining ws at gs → NextGroup ws at gs
 next-group ws at gs h l = go (l .fuel) (l .enough) (l .read)
   where
     one-more : (n : ℕ) → readGroups (suc n) (l .before) (drop at ws)
@@ -259,7 +278,7 @@ next-group ws at gs h l = go (l .fuel) (l .enough) (l .read)
           whole = u ∙ ap (λ (g : Group). g ∷ y .value) (sym v);
           forward = omega (arith, p .1, k);
           within = omega (arith, k);
-          left = record {
+          remaining = record {
             fuel = n;
             before = l .before + pointsOf (x .value .contours);
             rest = y .rest;

@@ -1,4 +1,5 @@
--- What a word reader finds ahead: a word of the list, or its end; moving on; and what a word says by itself. Assumes nothing.
+-- What a word reader finds ahead: a word of the list, or its end; moving on; and what a word says by itself. Assumes
+-- nothing.
 use mathlib.Core.Path.{_≡_, refl, sym, ap, _∙_}
 use mathlib.Core.Bool.{Bool, true, false, true≢false}
 use mathlib.Core.List.{List, [], _∷_}
@@ -10,7 +11,7 @@ use lib.ListN.{length, getD, drop}
 use lib.Signed.{ltZ}
 use borrow.Author.Tests.{ltb-true, ltb-false}
 use Rattle.fault.specs.declared.Fault.the-variants.{ListEndsEarly, CountOutOfRange, CoordinateOutOfRange}
-use Rattle.words.specs.Words.{beyond, readCount, readCoordinate}
+use Rattle.word_list.specs.Words.{beyond, readCount, readCoordinate}
 use Rattle.words.specs.Scan.{countedOf, checkedOf}
 use Rattle.words.specs.Reader.{wordOf, aloneOf}
 use Rattle.words.specs.declared.Counted.{Counted}

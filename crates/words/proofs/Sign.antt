@@ -10,7 +10,7 @@ use mir.Syntax.{w32, w64}
 use mir.Val.{Fits, SFits, ofZ, toZ}
 use mir.ValLaws.{toZ-ofZ}
 use borrow.Author.Tests.{eqb-true, ne-eqb}
-use Rattle.words.specs.Words.{isZero}
+use Rattle.word_list.specs.Words.{isZero}
 
 pub not-negative : (z : ℤ) → ltZ z (pos 0) ≡ false → T (nonNeg z)
 not-negative (pos n) h = tt

@@ -13,14 +13,18 @@ use lib.Seq.{drop-cons}
 use borrow.Author.Tests.{ltb-true, ltb-false, lt-ltb, le-ltb}
 use Rattle.fault.specs.declared.Fault.{Fault}
 use Rattle.fault.specs.declared.Fault.the-variants.{ListEndsEarly, CountOutOfRange, CoordinateOutOfRange}
-use Rattle.words.specs.Words.{Point, Group, pointsOf, pointsIn, Read, ok, fault, andThen, readCount, beyond, readCoordinate, readPoint, readPoints, readContour, readContours, readGroup, readGroups, readWords}
-use Rattle.words.specs.Scan.{countedOf, checkedOf, scanOf, groupPoints}
+use Rattle.word_list.specs.Words.{Point, Group, pointsOf, pointsIn, Read, ok, fault, andThen, beyond}
+use Rattle.word_list.specs.Words.{readCount, readCoordinate, readPoint, readPoints, readContour, readContours, readGroup, readGroups, readWords}
+use Rattle.words.specs.Scan.{countedOf, checkedOf, scanOf}
+use Rattle.word_list.specs.Words.{groupPoints}
+use Rattle.words.specs.declared.Counted.{Counted}
 use Rattle.words.specs.declared.Counted.the-variants as counted
 use Rattle.words.specs.declared.Checked.{Checked}
 use Rattle.words.specs.declared.Checked.the-variants as checked
 use Rattle.words.specs.declared.Scan.{Scan}
 use Rattle.words.specs.declared.Scan.the-variants as scan
-use Rattle.words.proofs.Ends.{then-ok, cond-ok, Ended, ended-contour, ended-group, placed}
+use Rattle.word_list.proofs.Ends.{then-ok, cond-ok, Ended, ended-contour, ended-group, placed}
+use Rattle.word_list.proofs.Few.{points-length, contour-few, contours-few, group-few}
 
 -- ---- what an answer says
 pub counted-count : (r : Read ℕ) (n : ℕ) → countedOf r ≡ counted.Count n → (rest : List ℤ) × (r ≡ ok n rest)
@@ -108,13 +112,13 @@ pointAt ws at = record { x = getD ws at (pos 0); y = getD ws (at + 1) (pos 0) }
 
 pub record PointThere (ws : List ℤ) (at : ℕ) : Type 0 where
   pub within : at + 2 ≤ length ws
-  pub near-x : beyond (getD ws at (pos 0)) ≡ false
-  pub near-y : beyond (getD ws (at + 1) (pos 0)) ≡ false
+  pub x-in-limit : beyond (getD ws at (pos 0)) ≡ false
+  pub y-in-limit : beyond (getD ws (at + 1) (pos 0)) ≡ false
 
 pub point-read : (ws : List ℤ) (at : ℕ) → PointThere ws at → readPoint (drop at ws) ≡ ok (pointAt ws at) (drop (at + 2) ws)
 unfolding readPoint andThen
 point-read ws at h =
-    rw (coordinate-good ws at (omega (arith, h .within)) (h .near-x), coordinate-good ws (at + 1) (omega (arith, h .within)) (h .near-y))
+    rw (coordinate-good ws at (omega (arith, h .within)) (h .x-in-limit), coordinate-good ws (at + 1) (omega (arith, h .within)) (h .y-in-limit))
     (let e : at + 1 + 1 ≡ at + 2 = omega arith in ap (λ (k : ℕ). ok (pointAt ws at) (drop k ws)) e)
 
 pub point-there : (ws : List ℤ) (at : ℕ) → checkedOf (readPoint (drop at ws)) ≡ checked.Good → PointThere ws at
@@ -124,7 +128,7 @@ point-there ws at e = go (checkedOf (readCoordinate (drop at ws))) refl
     go checked.Good h =
         let n = coordinate-next ws at h in
         let m = coordinate-next ws (at + 1) (point-second ws at h ∙ e) in
-        record { within = omega (arith, m .0); near-x = n .1; near-y = m .1 }
+        record { within = omega (arith, m .0); x-in-limit = n .1; y-in-limit = m .1 }
     go (checked.Refused f) h = let s = point-first ws at f (sym h) ∙ e in let z : _≡_ {A = ℕ} 0 1 = cc in absurd (omega arith)
 
 -- ---- lists of points, contours and groups: one is read, and then the others
@@ -156,46 +160,37 @@ unfolding readPoints andThen
 points-fault ws zero before at f h e = absurd (omega arith)
 points-fault ws (suc n) before at f h e = rw e refl
 
+-- where the points stand: those behind `at` are to come
+pub record PointsAt (ws : List ℤ) (from n before at remaining : ℕ) : Type 0 where
+  pub within : at ≤ length ws
+  pub few : remaining ≤ n
+  pub same : scanPoints ws n before from ≡ scanPoints ws remaining (before + (n - remaining)) at
+
+module _ {ws : List ℤ} {from n before : ℕ} where
+  pub points-start : from ≤ length ws → PointsAt ws from n before from n
+  points-start l = let z : before + (n - n) ≡ before = omega arith in record { within = l; few = omega arith; same = rw z refl }
+
+  module _ {at remaining : ℕ} (s : PointsAt ws from n before at remaining) where
+    pub points-stop : 0 < remaining → {r : Checked} {f : Fault} → r ≡ checkedOf (readPoint (drop at ws)) → r ≡ checked.Refused f
+        → scan.Refused f ≡ scanPoints ws n before from
+    points-stop h {f = f} is e =
+        let x = checked-fault (readPoint (drop at ws)) f (sym is ∙ e) in
+        sym (s .same ∙ points-fault ws remaining (before + (n - remaining)) at f h x)
+
+    pub points-more : 0 < remaining → PointThere ws at → PointsAt ws from n before (at + 2) (remaining - 1)
+    points-more h p =
+        let f = s .few in
+        let e : before + (n - remaining) + 1 ≡ before + (n - (remaining - 1)) = omega arith in
+        let one = points-step ws remaining (before + (n - remaining)) at h p in
+        record { within = p .within; few = omega arith; same = s .same ∙ rw e at one }
+
+    pub points-end : remaining ≤ 0 → scan.At at (before + n) ≡ scanPoints ws n before from
+    points-end h =
+        let e : before + (n - remaining) ≡ before + n = omega arith in
+        let none = points-none ws remaining (before + (n - remaining)) at h (s .within) in
+        rw e at none ∙ sym (rw e at (s .same))
+
 -- ---- contours
-pub points-length : (n : ℕ) (ws : List ℤ) (ps : List Point) (rest : List ℤ) → readPoints n ws ≡ ok ps rest → length ps ≡ n
-unfolding readPoints
-points-length zero ws ps rest e = let q : ps ≡ [] = cc in rw q refl
-points-length (suc n) ws ps rest e =
-    let a = then-ok (readPoint ws) _ ps rest e in
-    let b = then-ok (readPoints n (a .rest)) _ ps rest (a .second) in
-    let s = b .second in
-    let q : ps ≡ a .value ∷ b .value = cc in
-    rw q (ap suc (points-length n (a .rest) (b .value) (b .rest) (b .first)))
-
--- the points of a contour, of contours and of a group stay within the list's limit
-pub contour-few : (before : ℕ) (ws : List ℤ) (c : List Point) (rest : List ℤ) → readContour before ws ≡ ok c rest → before + length c ≤ 2048
-unfolding readContour
-contour-few before ws c rest e =
-    let a = then-ok (readCount ws) _ c rest e in
-    let b = cond-ok (ltb 2048 (before + a .value)) CountOutOfRange (readPoints (a .value) (a .rest)) c rest (a .second) in
-    omega (arith, ltb-false 2048 (before + a .value) (b .0), points-length (a .value) (a .rest) c rest (b .1))
-
-pub contours-few : (n before : ℕ) (ws : List ℤ) (cs : List (List Point)) (rest : List ℤ) → before ≤ 2048 → readContours n before ws ≡ ok cs rest → before + pointsOf cs ≤ 2048
-unfolding readContours pointsOf
-contours-few zero before ws cs rest l e = let q : cs ≡ [] = cc in rw q (omega arith)
-contours-few (suc n) before ws cs rest l e =
-    let a = then-ok (readContour before ws) _ cs rest e in
-    let b = then-ok (readContours n (before + length (a .value)) (a .rest)) _ cs rest (a .second) in
-    let s = b .second in
-    let q : cs ≡ a .value ∷ b .value = cc in
-    let f = contours-few n (before + length (a .value)) (a .rest) (b .value) (b .rest) (contour-few before ws (a .value) (a .rest) (a .first)) (b .first) in
-    rw q (omega arith)
-
-pub group-few : (before : ℕ) (ws : List ℤ) (g : Group) (rest : List ℤ) → before ≤ 2048 → readGroup before ws ≡ ok g rest → before + groupPoints g ≤ 2048
-unfolding readGroup
-group-few before [] g rest l e = let z : _≡_ {A = ℕ} 0 1 = cc in absurd (omega arith)
-group-few before (w ∷ ws) g rest l e =
-    let a = then-ok (readCount ws) _ g rest e in
-    let b = then-ok (readContours (a .value) before (a .rest)) _ g rest (a .second) in
-    let s = b .second in
-    let q : g ≡ record { rule = w; contours = b .value } = cc in
-    rw q (contours-few (a .value) before (a .rest) (b .value) (b .rest) l (b .first))
-
 abbrev scanContours : List ℤ → ℕ → ℕ → ℕ → Scan
 scanContours ws n before at = scanOf (length ws) pointsOf before (readContours n before (drop at ws))
 
@@ -230,9 +225,12 @@ module _ (ws : List ℤ) (n before at next more : ℕ) (some : 0 < n) (inside : 
   unfolding readContours pointsOf
   contours-step = go n some
     where
-      tail : (m : ℕ) → scanOf (length ws) pointsOf before (andThen (readContours m (before + length (w .value)) (w .rest)) (λ l rest. ok (w .value ∷ l) rest)) ≡ scanContours ws m more next
+      others : ℕ → Read (List (List Point))
+      others m = readContours m (before + length (w .value)) (w .rest)
+
+      tail : (m : ℕ) → scanOf (length ws) pointsOf before (andThen (others m) (λ l rest. ok (w .value ∷ l) rest)) ≡ scanContours ws m more next
       tail m =
-          scan-cons (length ws) pointsOf before (length (w .value)) (w .value) (λ l. refl) (readContours m (before + length (w .value)) (w .rest))
+          scan-cons (length ws) pointsOf before (length (w .value)) (w .value) (λ l. refl) (others m)
           ∙ ap (λ (k : ℕ). scanOf (length ws) pointsOf k (readContours m k (w .rest))) (sym (w .count))
           ∙ ap (λ (l : List ℤ). scanOf (length ws) pointsOf more (readContours m more l)) (contour-placed .0)
 
@@ -245,34 +243,37 @@ unfolding readContours andThen
 contours-fault ws zero before at f h e = absurd (omega arith)
 contours-fault ws (suc n) before at f h e = rw e refl
 
+-- where the contours stand: those behind `at` are to come
+pub record ContoursAt (ws : List ℤ) (from n before at points remaining : ℕ) : Type 0 where
+  pub within : at ≤ length ws
+  pub few : points ≤ 2048
+  pub same : scanContours ws n before from ≡ scanContours ws remaining points at
+
+module _ {ws : List ℤ} {from n before at points remaining : ℕ} (s : ContoursAt ws from n before at points remaining) where
+  abbrev scanNext : Scan
+  scanNext = scanOf (length ws) length points (readContour points (drop at ws))
+
+  pub contours-stop : 0 < remaining → {r : Scan} {f : Fault} → r ≡ scanNext → r ≡ scan.Refused f → scan.Refused f ≡ scanContours ws n before from
+  contours-stop h {f = f} is e =
+      let x = scan-fault (length ws) length points (readContour points (drop at ws)) f (sym is ∙ e) in
+      sym (s .same ∙ contours-fault ws remaining points at f h x)
+
+  pub contours-more : 0 < remaining → {r : Scan} {next more : ℕ} → r ≡ scanNext → r ≡ scan.At next more
+      → ContoursAt ws from n before next more (remaining - 1)
+  contours-more h {next = next} {more} is e =
+      let w = scan-at (length ws) length points (readContour points (drop at ws)) next more (sym is ∙ e) in
+      let o = contour-onward ws remaining points at next more h (s .within) w in
+      record { within = o .within; few = o .few; same = s .same ∙ contours-step ws remaining points at next more h (s .within) w }
+
+  pub contours-end : remaining ≤ 0 → scan.At at points ≡ scanContours ws n before from
+  contours-end h = contours-none ws remaining points at h (s .within) ∙ sym (s .same)
+
 -- ---- a group
 scan-map : {A B : Type 0} (total : ℕ) (points : A → ℕ) (count : B → ℕ) (before : ℕ) (f : A → B) → ((a : A) → count (f a) ≡ points a) → (r : Read A)
     → scanOf total count before (andThen r (λ a rest. ok (f a) rest)) ≡ scanOf total points before r
 unfolding andThen
 scan-map total points count before f h (ok a rest) = ap (λ (n : ℕ). scan.At (total - length rest) (before + n)) (h a)
 scan-map total points count before f h (fault g) = refl
-
-module _ (ws : List ℤ) (at before : ℕ) where
-  abbrev scanGroup : Scan
-  scanGroup = scanOf (length ws) groupPoints before (readGroup before (drop at ws))
-
-  -- where the rule word is missing, so is the count
-  pub group-fault : (f : Fault) → readCount (drop (at + 1) ws) ≡ fault f → scan.Refused f ≡ scanGroup
-  unfolding readGroup andThen readCount
-  group-fault f e = go (ltb at (length ws)) refl
-    where
-      go : (b : Bool) → ltb at (length ws) ≡ b → scan.Refused f ≡ scanGroup
-      go true h = rw (at-word ws at (ltb-true at (length ws) h), e) refl
-      go false h =
-          let l = ltb-false at (length ws) h in
-          let none = ap readCount (sym (at-end ws (at + 1) (omega arith))) ∙ e in
-          let same : f ≡ ListEndsEarly = cc in
-          rw (at-end ws at l, same) refl
-
-  pub group-contours : (n : ℕ) (rest : List ℤ) → at < length ws → readCount (drop (at + 1) ws) ≡ ok n rest → rest ≡ drop (at + 2) ws → scanContours ws n before (at + 2) ≡ scanGroup
-  unfolding readGroup
-  group-contours n rest h e q =
-      rw (at-word ws at h, e, q) (unfold andThen in sym (scan-map (length ws) pointsOf groupPoints before (λ (cs : List (List Point)). record { rule = getD ws at (pos 0); contours = cs }) (λ cs. refl) (readContours n before (drop (at + 2) ws))))
 
 -- the word behind a count
 pub count-next : (ws : List ℤ) (at n : ℕ) (rest : List ℤ) → readCount (drop at ws) ≡ ok n rest → (at < length ws) × (rest ≡ drop (at + 1) ws)
@@ -287,56 +288,105 @@ count-next ws at n rest e = go (ltb at (length ws)) refl
     none h = let z : _≡_ {A = ℕ} 0 1 = cc in omega arith
 
     go : (b : Bool) → ltb at (length ws) ≡ b → (at < length ws) × (rest ≡ drop (at + 1) ws)
-    go true h = (ltb-true at (length ws) h, word (getD ws at (pos 0)) (drop (at + 1) ws) (ap readCount (sym (at-word ws at (ltb-true at (length ws) h))) ∙ e))
+    go true h =
+        let l = ltb-true at (length ws) h in
+        (l, word (getD ws at (pos 0)) (drop (at + 1) ws) (ap readCount (sym (at-word ws at l)) ∙ e))
     go false h = absurd (none (ap readCount (sym (at-end ws at (ltb-false at (length ws) h))) ∙ e))
 
+-- a count stands at a place
+pub record CountThere (ws : List ℤ) (at n : ℕ) : Type 0 where
+  pub within : at < length ws
+  pub read : readCount (drop at ws) ≡ ok n (drop (at + 1) ws)
+
+module _ (ws : List ℤ) (at : ℕ) {r : Counted} (is : r ≡ countedOf (readCount (drop at ws))) where
+  pub count-there : {n : ℕ} → r ≡ counted.Count n → CountThere ws at n
+  count-there {n} e =
+      let c = counted-count (readCount (drop at ws)) n (sym is ∙ e) in
+      let q = count-next ws at n (c .0) (c .1) in
+      record { within = q .0; read = c .1 ∙ ap (ok n) (q .1) }
+
+  pub count-refused : {f : Fault} → r ≡ counted.Refused f → readCount (drop at ws) ≡ fault f
+  count-refused {f} e = counted-fault (readCount (drop at ws)) f (sym is ∙ e)
+
+abbrev scanGroup : List ℤ → ℕ → ℕ → Scan
+scanGroup ws before at = scanOf (length ws) groupPoints before (readGroup before (drop at ws))
+
+-- where the rule word is missing, so is the count
+pub group-fault : (ws : List ℤ) (at before : ℕ) (f : Fault) → readCount (drop (at + 1) ws) ≡ fault f → scan.Refused f ≡ scanGroup ws before at
+unfolding readGroup andThen readCount
+group-fault ws at before f e = go (ltb at (length ws)) refl
+  where
+    go : (b : Bool) → ltb at (length ws) ≡ b → scan.Refused f ≡ scanGroup ws before at
+    go true h = rw (at-word ws at (ltb-true at (length ws) h), e) refl
+    go false h =
+        let l = ltb-false at (length ws) h in
+        let none = ap readCount (sym (at-end ws (at + 1) (omega arith))) ∙ e in
+        let same : f ≡ ListEndsEarly = cc in
+        rw (at-end ws at l, same) refl
+
+pub group-contours : (at before : ℕ) {ws : List ℤ} {n : ℕ} → CountThere ws (at + 1) n → {r : Scan} → r ≡ scanContours ws n before (at + 2)
+    → r ≡ scanGroup ws before at
+unfolding readGroup
+group-contours at before {ws} {n} c e =
+    let two : at + 1 + 1 ≡ at + 2 = omega arith in
+    let h : at < length ws = omega (arith, c .within) in
+    let made = scan-map (length ws) pointsOf groupPoints before group (λ cs. refl) (readContours n before (drop (at + 2) ws)) in
+    e ∙ rw (at-word ws at h, c .read, two) (unfold andThen in sym made)
+  where
+    group : List (List Point) → Group
+    group cs = record { rule = getD ws at (pos 0); contours = cs }
+
 -- ---- a contour: its count, and its points
-module _ (ws : List ℤ) (at before : ℕ) where
-  abbrev scanContour : Scan
-  scanContour = scanOf (length ws) length before (readContour before (drop at ws))
+abbrev scanContour : List ℤ → ℕ → ℕ → Scan
+scanContour ws before at = scanOf (length ws) length before (readContour before (drop at ws))
 
-  pub contour-count : (f : Fault) → readCount (drop at ws) ≡ fault f → scan.Refused f ≡ scanContour
+pub contour-count : (ws : List ℤ) (at before : ℕ) (f : Fault) → readCount (drop at ws) ≡ fault f → scan.Refused f ≡ scanContour ws before at
+unfolding readContour andThen
+contour-count ws at before f e = rw e refl
+
+module _ {ws : List ℤ} {at n : ℕ} (c : CountThere ws at n) (before : ℕ) where
+  pub contour-many : 2048 - before < n → scan.Refused CountOutOfRange ≡ scanContour ws before at
   unfolding readContour andThen
-  contour-count f e = rw e refl
+  contour-many h = rw (c .read, lt-ltb 2048 (before + n) (omega arith)) refl
 
-  pub contour-many : (n : ℕ) (rest : List ℤ) → readCount (drop at ws) ≡ ok n rest → 2048 - before < n → scan.Refused CountOutOfRange ≡ scanContour
+  pub contour-points : before ≤ 2048 → n ≤ 2048 - before → {r : Scan} → r ≡ scanPoints ws n before (at + 1) → r ≡ scanContour ws before at
   unfolding readContour andThen
-  contour-many n rest e h = rw (e, lt-ltb 2048 (before + n) (omega arith)) refl
+  contour-points b h e = e ∙ rw (c .read, le-ltb 2048 (before + n) (omega arith)) refl
 
-  pub contour-points : (n : ℕ) (rest : List ℤ) → readCount (drop at ws) ≡ ok n rest → before ≤ 2048 → n ≤ 2048 - before → scanPoints ws n before (at + 1) ≡ scanContour
-  unfolding readContour andThen
-  contour-points n rest e b h = rw (e, le-ltb 2048 (before + n) (omega arith), (count-next ws at n rest e) .1) refl
-
--- ---- groups: what is left to read, with enough steps for it
+-- ---- groups: what remains to be read, with enough steps for it
 abbrev scanWords : List ℤ → Scan
 scanWords ws = scanOf (length ws) pointsIn 0 (readWords ws)
 
 pub record Going (ws : List ℤ) (at before : ℕ) : Type 0 where
+  pub within : at ≤ length ws
+  pub few : before ≤ 2048
   pub fuel : ℕ
   pub enough : length ws - at ≤ fuel
-  pub left : scanWords ws ≡ scanOf (length ws) pointsIn before (readGroups fuel before (drop at ws))
+  pub remaining : scanWords ws ≡ scanOf (length ws) pointsIn before (readGroups fuel before (drop at ws))
 
 pub going-start : (ws : List ℤ) → Going ws 0 0
 unfolding readWords
-going-start ws = record { fuel = length ws; enough = omega arith; left = refl }
+going-start ws = record { within = omega arith; few = omega arith; fuel = length ws; enough = omega arith; remaining = refl }
 
-pub going-end : (ws : List ℤ) (at before : ℕ) → at ≤ length ws → length ws ≤ at → Going ws at before → scan.At at before ≡ scanWords ws
+pub going-end : {ws : List ℤ} {at before : ℕ} → Going ws at before → length ws ≤ at → scan.At at before ≡ scanWords ws
 unfolding readGroups pointsIn
-going-end ws at before l h g = sym (g .left ∙ rw (at-end ws at h) (none (g .fuel)))
+going-end {ws} {at} {before} g h = sym (g .remaining ∙ rw (at-end ws at h) (none (g .fuel)))
   where
     all : scan.At (length ws - 0) (before + 0) ≡ scan.At at before
-    all = let e : length ws - 0 ≡ at = omega arith in ap (λ (k : ℕ). scan.At k (before + 0)) e ∙ ap (λ (n : ℕ). scan.At at n) (add-zero before)
+    all =
+        let e : length ws - 0 ≡ at = omega (arith, g .within) in
+        ap (λ (k : ℕ). scan.At k (before + 0)) e ∙ ap (λ (n : ℕ). scan.At at n) (add-zero before)
 
     none : (n : ℕ) → scanOf (length ws) pointsIn before (readGroups n before []) ≡ scan.At at before
     none zero = all
     none (suc n) = all
 
-module _ (ws : List ℤ) (at before : ℕ) (h : at < length ws) (g : Going ws at before) where
+module _ {ws : List ℤ} {at before : ℕ} (g : Going ws at before) (h : at < length ws) {r : Scan} (is : r ≡ scanGroup ws before at) where
   some-fuel : (n : ℕ) × (g .fuel ≡ suc n)
   some-fuel = let e = g .enough in let q : g .fuel ≡ suc (g .fuel - 1) = omega arith in (g .fuel - 1, q)
 
   open-fuel : scanWords ws ≡ scanOf (length ws) pointsIn before (readGroups (suc (some-fuel .0)) before (drop at ws))
-  open-fuel = g .left ∙ ap (λ (n : ℕ). scanOf (length ws) pointsIn before (readGroups n before (drop at ws))) (some-fuel .1)
+  open-fuel = g .remaining ∙ ap (λ (n : ℕ). scanOf (length ws) pointsIn before (readGroups n before (drop at ws))) (some-fuel .1)
 
   -- the list has a word at this place
   one-more : (n : ℕ) → readGroups (suc n) before (drop at ws)
@@ -344,24 +394,32 @@ module _ (ws : List ℤ) (at before : ℕ) (h : at < length ws) (g : Going ws at
   unfolding readGroups
   one-more n = rw (at-word ws at h) refl
 
-  pub going-fault : (f : Fault) → readGroup before (drop at ws) ≡ fault f → scan.Refused f ≡ scanWords ws
+  pub going-fault : {f : Fault} → r ≡ scan.Refused f → scan.Refused f ≡ scanWords ws
   unfolding andThen
-  going-fault f e = sym (open-fuel ∙ ap (scanOf (length ws) pointsIn before) (one-more (some-fuel .0)) ∙ rw e refl)
+  going-fault {f} e =
+      let x = scan-fault (length ws) groupPoints before (readGroup before (drop at ws)) f (sym is ∙ e) in
+      sym (open-fuel ∙ ap (scanOf (length ws) pointsIn before) (one-more (some-fuel .0)) ∙ rw x refl)
 
-  module _ (next more : ℕ) (w : Went (length ws) groupPoints before (readGroup before (drop at ws)) next more) where
+  module _ {next more : ℕ} (e : r ≡ scan.At next more) where
+    w : Went (length ws) groupPoints before (readGroup before (drop at ws)) next more
+    w = scan-at (length ws) groupPoints before (readGroup before (drop at ws)) next more (sym is ∙ e)
+
     group-placed : (w .rest ≡ drop next ws) × (at + 2 ≤ next)
     group-placed =
         let p = placed 2 at ws (w .value) (w .rest) (omega arith) (subst (Ended 2 (drop at ws)) (w .read) (ended-group before (drop at ws))) in
         (p .0 ∙ ap (λ (k : ℕ). drop k ws) (sym (w .place)), omega (arith, p .1, w .place))
 
-    pub group-onward : before ≤ 2048 → Onward ws 2 at next more
-    group-onward b = record {
+    pub group-onward : Onward ws 2 at next more
+    group-onward = record {
       forward = group-placed .1;
       within = omega (arith, w .place);
-      few = omega (arith, w .count, group-few before (drop at ws) (w .value) (w .rest) b (w .read));
+      few = omega (arith, w .count, group-few before (drop at ws) (w .value) (w .rest) (g .few) (w .read));
     }
 
-    read-on : (n : ℕ) → readGroups (suc n) before (drop at ws) ≡ andThen (readGroups n (before + groupPoints (w .value)) (w .rest)) (λ gs more. ok (w .value ∷ gs) more)
+    abbrev others : ℕ → Read (List Group)
+    others n = readGroups n (before + groupPoints (w .value)) (w .rest)
+
+    read-on : (n : ℕ) → readGroups (suc n) before (drop at ws) ≡ andThen (others n) (λ gs more. ok (w .value ∷ gs) more)
     read-on n = one-more n ∙ rw (w .read) (unfold andThen in refl)
 
     pub going-more : Going ws next more
@@ -369,14 +427,15 @@ module _ (ws : List ℤ) (at before : ℕ) (h : at < length ws) (g : Going ws at
     going-more =
         let f = some-fuel in
         let n = f .0 in
-        let e = g .enough in
-        let l = group-placed .1 in
+        let o = group-onward in
         record {
+          within = o .within;
+          few = o .few;
           fuel = n;
-          enough = omega (arith, f .1);
-          left = open-fuel
+          enough = omega (arith, f .1, g .enough);
+          remaining = open-fuel
               ∙ ap (scanOf (length ws) pointsIn before) (read-on n)
-              ∙ scan-cons (length ws) pointsIn before (groupPoints (w .value)) (w .value) (λ l. refl) (readGroups n (before + groupPoints (w .value)) (w .rest))
+              ∙ scan-cons (length ws) pointsIn before (groupPoints (w .value)) (w .value) (λ l. refl) (others n)
               ∙ ap (λ (k : ℕ). scanOf (length ws) pointsIn k (readGroups n k (w .rest))) (sym (w .count))
               ∙ ap (λ (l : List ℤ). scanOf (length ws) pointsIn more (readGroups n more l)) (group-placed .0);
         }

@@ -3,7 +3,7 @@ use mathlib.Core.List.{List, [], _∷_}
 use mathlib.Core.Bool.{Bool, not, false}
 use lib.IntN.{ℤ}
 use lib.ListN.{drop}
-use Rattle.words.specs.Words.{isZero}
+use Rattle.word_list.specs.Words.{isZero}
 use Rattle.words.specs.declared.Word.{Word}
 use Rattle.words.specs.declared.Word.the-variants.{Value, End}
 use Rattle.words.specs.declared.WordReader.{WordReader}

@@ -1,10 +1,10 @@
--- How the code hands on what is read (specs/Words.antt): by a place of the list instead of the words behind it, and by how many points there were instead of the points.
--- Definitions only.
-use mathlib.Core.List.{[]}
+-- How the code hands on what is read (word_list/specs/Words.antt): by a place of the list instead of the words behind
+-- it, and by how many points there were instead of the points. Definitions only.
+use mathlib.Core.List.{List, []}
 use Prim.Native.Nat.{ℕ, _+_, _-_}
-use lib.IntN.{pos}
-use lib.ListN.{length}
-use Rattle.words.specs.Words.{Group, pointsOf, Read, ok, fault}
+use lib.IntN.{ℤ, pos}
+use lib.ListN.{length, drop}
+use Rattle.word_list.specs.Words.{Point, Group, pointsOf, Read, ok, fault, readOr, readPoints, readContours}
 use Rattle.words.specs.declared.Counted.{Counted}
 use Rattle.words.specs.declared.Counted.the-variants as counted
 use Rattle.words.specs.declared.Checked.{Checked}
@@ -25,15 +25,19 @@ abbrev pub scanOf : {A : Type 0} → ℕ → (A → ℕ) → ℕ → Read A → 
 scanOf total points before (ok a rest) = scan.At (total - length rest) (before + points a)
 scanOf total points before (fault f) = scan.Refused f
 
-abbrev pub groupPoints : Group → ℕ
-groupPoints g = pointsOf (g .contours)
-
 -- ---- a list that was checked is read again when it is drawn
 
 -- no word was at fault
 abbrev pub Fine : {A : Type 0} → Read A → Type 0
 Fine (ok a rest) = Unit
 Fine (fault f) = ⊥
+
+-- the n points, and the n contours, whose words stand from a place on; none where a word is at fault
+abbrev pub pointsFrom : List ℤ → ℕ → ℕ → List Point
+pointsFrom ws at n = readOr [] (readPoints n (drop at ws))
+
+abbrev pub contoursFrom : List ℤ → ℕ → ℕ → List (List Point)
+contoursFrom ws at n = readOr [] (readContours n 0 (drop at ws))
 
 -- the place behind what was read, in a list of `total` words
 abbrev pub endOf : {A : Type 0} → ℕ → Read A → ℕ

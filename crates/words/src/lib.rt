@@ -4,8 +4,9 @@ use fault::Fault;
 ghost use mathlib.Core.Path.{_≡_};
 ghost use Prim.Native.Nat.{_+_, _≤_};
 ghost use lib.ListN.{length, drop};
-ghost use Rattle.words.specs.Words.{beyond, readCount, readCoordinate, readPoint, readPoints, readContour, readContours, readGroup, readWords, pointsOf, pointsIn};
-ghost use Rattle.words.specs.Scan.{countedOf, checkedOf, scanOf, groupPoints};
+ghost use Rattle.word_list.specs.Words.{beyond, readCount, readCoordinate, readPoint, readPoints, readContour, readContours, readGroup, readWords, pointsOf, pointsIn};
+ghost use Rattle.words.specs.Scan.{countedOf, checkedOf, scanOf};
+ghost use Rattle.word_list.specs.Words.{groupPoints};
 ghost use Rattle.words.specs.Reader.{ahead, wordOf, aloneOf, isEvenOdd};
 
 // A count word.
@@ -207,15 +208,15 @@ fn points_at(words: &[i32], from: usize, n: usize, before: usize) -> Scan
     ensures { λ r. ⌜ r ≡ scanOf (length (now (words .entry))) length before (readPoints n (drop from (now (words .entry)))) ⌝ }
 {
     let mut at = from;
-    let mut left = n;
-    while 0 < left {
+    let mut remaining = n;
+    while 0 < remaining {
         match point_at(words, at) {
             Checked::Refused(f) => return Scan::Refused(f),
             Checked::Good => {
                 at += 2;
             }
         }
-        left -= 1;
+        remaining -= 1;
     }
     Scan::At(at, before + n)
 }
@@ -244,8 +245,8 @@ fn contours_at(words: &[i32], from: usize, n: usize, before: usize) -> Scan
 {
     let mut at = from;
     let mut points = before;
-    let mut left = n;
-    while 0 < left {
+    let mut remaining = n;
+    while 0 < remaining {
         match contour_at(words, at, points) {
             Scan::Refused(f) => return Scan::Refused(f),
             Scan::At(next, more) => {
@@ -253,7 +254,7 @@ fn contours_at(words: &[i32], from: usize, n: usize, before: usize) -> Scan
                 points = more;
             }
         }
-        left -= 1;
+        remaining -= 1;
     }
     Scan::At(at, points)
 }

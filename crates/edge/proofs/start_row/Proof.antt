@@ -5,14 +5,9 @@ use borrow.Author.Needs.{needs}
 use Rattle.edge.proofs.start_row.Statement.{statement}
 use Rattle.edge.proofs.start_row.Tie as tie
 
-max-requires : tie.Need-max-requires
-max-requires c κs = search needs
-
-to-column-requires : tie.Need-to-column-requires
-to-column-requires c κs = search needs
-
 returns : tie.Need-returns
 returns c = c .to-column .ensures ∙ ap columnOf (c .before .max .ensures)
 
 pub start-row-spec : {M : Type 1} → statement M
-start-row-spec = tie.close (tie.spec max-requires to-column-requires returns)
+start-row-spec =
+    tie.close (tie.spec (λ c κs. search needs) (λ c κs. search needs) returns)

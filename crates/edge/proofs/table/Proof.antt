@@ -1,9 +1,10 @@
--- `edge::table` meets its contract: from the last edge to the first, the edges behind are in the table. Assumes nothing.
+-- `edge::table` meets its contract: from the last edge to the first, the edges behind are in the table. Assumes
+-- nothing.
 use mathlib.Core.Path.{_≡_, ap, _∙_, subst}
 use native.Mathlib.Omega.{arith}
 use Rattle.edge.specs.Edges.{startRow}
-use Rattle.edge.specs.Table.{Tabled}
-use Rattle.edge.proofs.Linking.{TableAt, table-start, table-link, table-turn}
+use Rattle.edge.specs.Table.{InTable}
+use Rattle.edge.proofs.Linking.{TableAt, TableRoom, table-start, table-room, table-link, table-turn}
 use borrow.Author.Needs.{needs}
 use Rattle.edge.proofs.table.Statement.{statement}
 use Rattle.edge.proofs.table.Tie as tie
@@ -15,50 +16,36 @@ abbrev μ-loop : tie.MeasureT-loop
 μ-loop floats₀ heads₀ l i₀ floats heads i = i
 
 loop-holds : tie.Need-loop-holds Inv-loop μ-loop
-loop-holds c =
-    let args = c .before .before .args in
-    let pre = c .before .before .pre in
-    table-start (args .floats .now) (args .heads .now) (args .l) (pre .0) (pre .1 .0)
+loop-holds c = let pre = c .before .before .pre in table-start (pre .0) (pre .1 .0)
 
-sub-i : tie.Need-sub-i Inv-loop μ-loop
-sub-i c = search needs
+-- in a turn
+room : (c : tie.In-loop Inv-loop μ-loop) → TableRoom (c .before .loop .floats) (c .before .before .before .before .args .l) (c .before .loop .i)
+room c = table-room (c .before .before .before .before .pre .0) (c .before .loop .inv) (c .loop-test .taken)
 
 mul-load : tie.Need-mul-load Inv-loop μ-loop
-mul-load c =
-    let loop = c .before .before .loop in
-    let p = c .before .before .before .before .before .pre .0 in let a = p .edges in let b = p .nexts in let d = p .active in let w = loop .inv .within in let g = loop .inv .changed .long in omega arith
+mul-load c = let r = room (c .before) in omega arith
 
 add-load : tie.Need-add-load Inv-loop μ-loop
-add-load c =
-    let loop = c .before .before .before .loop in
-    let p = c .before .before .before .before .before .before .pre .0 in let a = p .edges in let b = p .nexts in let d = p .active in let w = loop .inv .within in let g = loop .inv .changed .long in omega arith
+add-load c = let r = room (c .before .before) in omega arith
 
 load-requires : tie.Need-load-requires Inv-loop μ-loop
-load-requires c κs =
-    let loop = c .before .before .before .loop in
-    let p = c .before .before .before .before .before .before .pre .0 in let a = p .edges in let b = p .nexts in let d = p .active in let w = loop .inv .within in let g = loop .inv .changed .long in omega arith
-
-start-row-requires : tie.Need-start-row-requires Inv-loop μ-loop
-start-row-requires c κs = search needs
+load-requires c κs = let r = room (c .before .before) in omega arith
 
 link-requires : tie.Need-link-requires Inv-loop μ-loop
 link-requires c κs =
-    let args = c .before .before .before .before .before .before .before .before .before .before .args in
-    let pre = c .before .before .before .before .before .before .before .before .before .before .pre in
-    let loop = c .before .before .before .before .before .before .before .loop in
-    table-link (args .floats .now) (args .heads .now) (args .l) (pre .0) (pre .1 .1) (loop .floats) (loop .heads) (loop .i) (loop .inv) (c .before .before .before .before .before .before .loop-test .taken) (c .start-row .result) (c .start-row .ensures ∙ ap startRow (c .before .before .before .load .ensures))
-
-loop-less : tie.Need-loop-less Inv-loop μ-loop
-loop-less c = search needs
+    let turn = c .before .before .before .before .before .before in
+    let pre = turn .before .before .before .before .pre in
+    table-link (pre .0) (turn .before .loop .inv) (turn .loop-test .taken) (pre .1 .1)
+    (c .start-row .ensures ∙ ap startRow (c .before .before .before .load .ensures))
 
 loop-again : tie.Need-loop-again Inv-loop μ-loop
 loop-again c =
-    let args = c .before .before .before .before .before .before .before .before .before .before .before .before .before .before .before .args in
-    let pre = c .before .before .before .before .before .before .before .before .before .before .before .before .before .before .before .pre in
-    let loop = c .before .before .before .before .before .before .before .before .before .before .before .before .loop in
-    let start-row = c .before .before .before .before .before .start-row in
+    let loaded = c .before .before .before .before .before .before .before .before in
+    let turn = loaded .before .before .before in
+    let pre = turn .before .before .before .before .pre in
     let link = c .before .before .before .before .link in
-    table-turn (args .floats .now) (args .heads .now) (args .l) (pre .0) (pre .1 .1) (loop .floats) (loop .heads) (loop .i) (loop .inv) (c .before .before .before .before .before .before .before .before .before .before .before .loop-test .taken) (start-row .result) (start-row .ensures ∙ ap startRow (c .before .before .before .before .before .before .before .before .load .ensures)) (link .last .0) (link .last .1 .0) (link .ensures .0) (link .ensures .1)
+    table-turn (pre .0) (turn .before .loop .inv) (turn .loop-test .taken) (pre .1 .1)
+    (c .before .before .before .before .before .start-row .ensures ∙ ap startRow (loaded .load .ensures)) (link .ensures .0) (link .ensures .1)
 
 same-length : tie.Need-same-length Inv-loop μ-loop
 same-length c = c .before .loop .inv .changed .long
@@ -68,24 +55,12 @@ same-length-2 c = c .before .loop .inv .long
 
 returns : tie.Need-returns Inv-loop μ-loop
 returns c =
-    let e : c .before .loop .i ≡ 0 = omega arith in
-    (subst (Tabled (c .before .loop .floats) (c .before .loop .heads) (c .before .before .before .before .args .l)) e (c .before .loop .inv .tabled), c .before .loop .inv .changed)
+    let loop = c .before .loop in
+    let e : loop .i ≡ 0 = omega arith in
+    (subst (InTable (loop .floats) (loop .heads) _) e (loop .inv .tabled), loop .inv .changed)
 
 pub table-spec : {M : Type 1} → statement M
 table-spec =
     tie.close
-    (tie.spec
-    Inv-loop
-    μ-loop
-    loop-holds
-    sub-i
-    mul-load
-    add-load
-    load-requires
-    start-row-requires
-    link-requires
-    loop-less
-    loop-again
-    same-length
-    same-length-2
-    returns)
+    (tie.spec Inv-loop μ-loop loop-holds (λ c. search needs) mul-load add-load load-requires
+    (λ c κs. search needs) link-requires (λ c. search needs) loop-again same-length same-length-2 returns)

@@ -12,4 +12,5 @@ returns-2 : tie.Need-returns-2
 returns-2 c = rw (← c .before .turns-at .ensures, c .if1 .left)
 
 pub turn-spec : {M : Type 1} → statement M
-turn-spec = tie.close (tie.spec turns-at-requires returns returns-2)
+turn-spec =
+    tie.close (tie.spec turns-at-requires returns returns-2)

@@ -12,8 +12,6 @@ int-to-float-result : tie.Need-int-to-float-result
 unfolding inFloat
 int-to-float-result c = subst T (sym (le-leb (c .before .args .n) (2 ^ 24) (c .before .pre))) tt
 
-returns : tie.Need-returns
-returns c = search needs
-
 pub from-whole-spec : {M : Type 1} → statement M
-from-whole-spec = tie.close (tie.spec int-to-float-result returns)
+from-whole-spec =
+    tie.close (tie.spec int-to-float-result (λ c. search needs))

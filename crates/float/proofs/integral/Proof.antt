@@ -8,9 +8,6 @@ use borrow.Author.Needs.{needs}
 use Rattle.float.proofs.integral.Statement.{statement}
 use Rattle.float.proofs.integral.Tie as tie
 
-is-finite-requires : tie.Need-is-finite-requires
-is-finite-requires c κs = search needs
-
 unpack32-requires : tie.Need-unpack32-requires
 unpack32-requires c κs = holds (sym (c .before .is-finite .ensures) ∙ c .if1 .taken)
 
@@ -18,12 +15,6 @@ returns : tie.Need-returns
 returns c =
     let s = c .before .before .before .before in
     integral-big (c .before .unpack32 .ensures) (holds (s .good .0 .1)) (c .if2 .taken) (s .args .up)
-
-cut-whole-requires : tie.Need-cut-whole-requires
-cut-whole-requires c κs = search needs
-
-signed-whole-requires : tie.Need-signed-whole-requires
-signed-whole-requires c κs = search needs
 
 returns-2 : tie.Need-returns-2
 returns-2 c =
@@ -39,11 +30,5 @@ returns-3 c = integral-other (c .before .before .args .up) (c .before .before .a
 pub integral-spec : {M : Type 1} → statement M
 integral-spec =
     tie.close
-    (tie.spec
-    is-finite-requires
-    unpack32-requires
-    returns
-    cut-whole-requires
-    signed-whole-requires
-    returns-2
-    returns-3)
+    (tie.spec (λ c κs. search needs) unpack32-requires returns (λ c κs. search needs) (λ c κs. search needs)
+    returns-2 returns-3)

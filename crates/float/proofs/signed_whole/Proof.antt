@@ -7,9 +7,6 @@ use borrow.Author.Needs.{needs}
 use Rattle.float.proofs.signed_whole.Statement.{statement}
 use Rattle.float.proofs.signed_whole.Tie as tie
 
-from-whole-requires : tie.Need-from-whole-requires
-from-whole-requires c κs = search needs
-
 returns : tie.Need-returns
 unfolding ofInt
 returns c = rw (c .if1 .taken) (ap neg (c .before .from-whole .ensures) ∙ neg-round binary32 false (c .before .before .args .n) 1)
@@ -19,4 +16,5 @@ unfolding ofInt
 returns-2 c = rw (c .if1 .left) (c .before .from-whole .ensures)
 
 pub signed-whole-spec : {M : Type 1} → statement M
-signed-whole-spec = tie.close (tie.spec from-whole-requires returns returns-2)
+signed-whole-spec =
+    tie.close (tie.spec (λ c κs. search needs) returns returns-2)

@@ -7,14 +7,9 @@ use Rattle.float.proofs.step_away.Tie as tie
 returns : tie.Need-returns
 returns c = simp (c .before .if1 .taken, eq-eqb _ _ (c .if2 .taken))
 
-add-result : tie.Need-add-result
-add-result c = search needs
-
 returns-2 : tie.Need-returns-2
 returns-2 c = simp (c .before .if1 .taken, ne-eqb _ _ (c .if2 .left))
 
-returns-3 : tie.Need-returns-3
-returns-3 c = search needs
-
 pub step-away-spec : {M : Type 1} → statement M
-step-away-spec = tie.close (tie.spec returns add-result returns-2 returns-3)
+step-away-spec =
+    tie.close (tie.spec returns (λ c. search needs) returns-2 (λ c. search needs))

@@ -5,12 +5,6 @@ use borrow.Author.Needs.{needs}
 use Rattle.float.proofs.to_byte.Statement.{statement}
 use Rattle.float.proofs.to_byte.Tie as tie
 
-to-column-requires : tie.Need-to-column-requires
-to-column-requires c κs = search needs
-
-cast-result : tie.Need-cast-result
-cast-result c = search needs
-
 returns : tie.Need-returns
 returns c =
     let e = c .before .to-column .ensures in
@@ -22,4 +16,5 @@ returns-2 c =
     omega (arith, cut-narrower 8 13 (c .before .before .args .x) (omega arith))
 
 pub to-byte-spec : {M : Type 1} → statement M
-to-byte-spec = tie.close (tie.spec to-column-requires cast-result returns returns-2)
+to-byte-spec =
+    tie.close (tie.spec (λ c κs. search needs) (λ c. search needs) returns returns-2)

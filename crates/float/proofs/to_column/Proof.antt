@@ -29,4 +29,5 @@ unfolding ofBits
 returns-3 c = below-one 13 (c .before .before .args .x) (c .if2 .left)
 
 pub to-column-spec : {M : Type 1} → statement M
-to-column-spec = tie.close (tie.spec returns whole-part-requires returns-2 returns-3)
+to-column-spec =
+    tie.close (tie.spec returns whole-part-requires returns-2 returns-3)

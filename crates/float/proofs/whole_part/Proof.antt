@@ -43,4 +43,5 @@ returns c =
     part (c .before .before .before .args .x) (r .negative) (r .digits) (r .exponent) (c .before .before .unpack32 .ensures) (c .before .before .before .pre .0) (c .before .before .before .pre .1)
 
 pub whole-part-spec : {M : Type 1} → statement M
-whole-part-spec = tie.close (tie.spec unpack32-requires sub-result shr-result returns)
+whole-part-spec =
+    tie.close (tie.spec unpack32-requires sub-result shr-result returns)

@@ -7,16 +7,10 @@ use Rattle.float.specs.Whole.{ofWhole}
 use Rattle.float_exports.proofs.beamnettle_float_from_whole.Statement.{statement}
 use Rattle.float_exports.proofs.beamnettle_float_from_whole.Tie as tie
 
-from-whole-requires : tie.Need-from-whole-requires
-from-whole-requires c κs = search needs
-
 returns : tie.Need-returns
 returns c =
     let e : c .before .before .args .n ≡ min (c .before .before .args .n) (2 ^ 24) = omega arith in
     c .from-whole .ensures ∙ ap ofWhole e
-
-from-whole-requires-2 : tie.Need-from-whole-requires-2
-from-whole-requires-2 c κs = search needs
 
 returns-2 : tie.Need-returns-2
 returns-2 c =
@@ -25,4 +19,4 @@ returns-2 c =
 
 pub beamnettle-float-from-whole-spec : {M : Type 1} → statement M
 beamnettle-float-from-whole-spec =
-    tie.close (tie.spec from-whole-requires returns from-whole-requires-2 returns-2)
+    tie.close (tie.spec (λ c κs. search needs) returns (λ c κs. search needs) returns-2)

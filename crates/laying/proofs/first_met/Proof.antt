@@ -53,4 +53,5 @@ returns-2 c =
     rw (toZ-ofZ w32 z f) (start-right z (rw (toZ-ofZ w32 z f) at (c .if1 .left)))
 
 pub first-met-spec : {M : Type 1} → statement M
-first-met-spec = tie.close (tie.spec cast-t3 sub-t4 cast-t5 returns cast-t6 returns-2)
+first-met-spec =
+    tie.close (tie.spec cast-t3 sub-t4 cast-t5 returns cast-t6 returns-2)

@@ -14,8 +14,6 @@ add-result c = let p = product-small (c .args .cell) (c .args .other) (c .fits .
 cast-result : tie.Need-cast-result
 cast-result c = let p = product-small (c .args .cell) (c .args .other) (c .fits .cell .fits) (c .fits .other .fits) in omega arith
 
-returns : tie.Need-returns
-returns c = search needs
-
 pub lay-byte-spec : {M : Type 1} → statement M
-lay-byte-spec = tie.close (tie.spec mul-result add-result cast-result returns)
+lay-byte-spec =
+    tie.close (tie.spec mul-result add-result cast-result (λ c. search needs))

@@ -18,24 +18,6 @@ abbrev μ-loop : tie.MeasureT-loop
 loop-holds : tie.Need-loop-holds Inv-loop μ-loop
 loop-holds c = (omega arith, refl, refl)
 
-slice-read-lay-byte : tie.Need-slice-read-lay-byte Inv-loop μ-loop
-slice-read-lay-byte c = search needs
-
-shared-slice-read-lay-byte : tie.Need-shared-slice-read-lay-byte Inv-loop μ-loop
-shared-slice-read-lay-byte c = search needs
-
-lay-byte-requires : tie.Need-lay-byte-requires Inv-loop μ-loop
-lay-byte-requires c κs = search needs
-
-slice-write-cells : tie.Need-slice-write-cells Inv-loop μ-loop
-slice-write-cells c = search needs
-
-add-i : tie.Need-add-i Inv-loop μ-loop
-add-i c = search needs
-
-loop-less : tie.Need-loop-less Inv-loop μ-loop
-loop-less c = search needs
-
 loop-again : tie.Need-loop-again Inv-loop μ-loop
 loop-again c =
     let l = c .before .before .before .before .loop in
@@ -45,25 +27,11 @@ loop-again c =
       l .inv .2 ∙ laid-more (l .i) (l .cells) (a .others .now) (omega arith) (omega arith) ∙ sym (rw (c .lay-byte .ensures) refl),
     )
 
-same-length : tie.Need-same-length Inv-loop μ-loop
-same-length c = search needs
-
 returns : tie.Need-returns Inv-loop μ-loop
 returns c = sym (c .before .loop .inv .2 ∙ laid-all (c .before .loop .i) (c .before .loop .cells) (c .before .before .before .before .args .others .now) (omega arith))
 
 pub lay-cells-spec : {M : Type 1} → statement M
 lay-cells-spec =
     tie.close
-    (tie.spec
-    Inv-loop
-    μ-loop
-    loop-holds
-    slice-read-lay-byte
-    shared-slice-read-lay-byte
-    lay-byte-requires
-    slice-write-cells
-    add-i
-    loop-less
-    loop-again
-    same-length
-    returns)
+    (tie.spec Inv-loop μ-loop loop-holds (λ c. search needs) (λ c. search needs) (λ c κs. search needs)
+    (λ c. search needs) (λ c. search needs) (λ c. search needs) loop-again (λ c. search needs) returns)

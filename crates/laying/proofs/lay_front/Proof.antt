@@ -10,38 +10,11 @@ use borrow.Author.Needs.{needs}
 use Rattle.laying.proofs.lay_front.Statement.{statement}
 use Rattle.laying.proofs.lay_front.Tie as tie
 
-lay-cells-requires : tie.Need-lay-cells-requires
-lay-cells-requires c κs = search needs
-
-same-length : tie.Need-same-length
-same-length c = search needs
-
-returns : tie.Need-returns
-returns c = search needs
-
-slice-relend-prefix-lay-cells : tie.Need-slice-relend-prefix-lay-cells
-slice-relend-prefix-lay-cells c = search needs
-
 slice-aggregate-lay-cells : tie.Need-slice-aggregate-lay-cells
 slice-aggregate-lay-cells c = sym (length-take-le (length (c .before .before .before .before .args .others .now)) (c .before .before .before .before .args .cells .now) (omega arith))
 
 lay-cells-requires-2 : tie.Need-lay-cells-requires-2
 lay-cells-requires-2 c κs = simp length-take (omega arith)
-
-sub-clear-bytes : tie.Need-sub-clear-bytes
-sub-clear-bytes c = search needs
-
-part-clear-bytes-start : tie.Need-part-clear-bytes-start
-part-clear-bytes-start c = search needs
-
-part-clear-bytes-end : tie.Need-part-clear-bytes-end
-part-clear-bytes-end c = search needs
-
-clear-bytes-requires : tie.Need-clear-bytes-requires
-clear-bytes-requires c κs = search needs
-
-same-length-2 : tie.Need-same-length-2
-same-length-2 c = search needs
 
 returns-2 : tie.Need-returns-2
 returns-2 c =
@@ -59,16 +32,6 @@ returns-2 c =
 pub lay-front-spec : {M : Type 1} → statement M
 lay-front-spec =
     tie.close
-    (tie.spec
-    lay-cells-requires
-    same-length
-    returns
-    slice-relend-prefix-lay-cells
-    slice-aggregate-lay-cells
-    lay-cells-requires-2
-    sub-clear-bytes
-    part-clear-bytes-start
-    part-clear-bytes-end
-    clear-bytes-requires
-    same-length-2
-    returns-2)
+    (tie.spec (λ c κs. search needs) (λ c. search needs) (λ c. search needs) (λ c. search needs)
+    slice-aggregate-lay-cells lay-cells-requires-2 (λ c. search needs) (λ c. search needs) (λ c. search needs)
+    (λ c κs. search needs) (λ c. search needs) returns-2)

@@ -1,105 +1,64 @@
 -- `mask::draw_group` meets its contract. Assumes nothing.
-use borrow.Author.Needs.{needs}
 use mathlib.Core.Path.{sym, ap, _∙_}
-use native.Mathlib.Omega.{arith}
-use lib.ListN.{drop}
-use Rattle.words.specs.Words.{readGroup, readOr}
-use Rattle.words.specs.Scan.{noGroup}
 use Rattle.words.specs.Reader.{isEvenOdd}
 use Rattle.words.proofs.Reader.{word-here}
-use Rattle.words.proofs.Places.{group-there}
-use Rattle.contour.proofs.Several.{same-count, not-refused}
-use Rattle.mask.proofs.OneGroup.{contours-fine, contours-room, contours-end, stored-few, stored-clean, stored-room, holds, stored}
+use Rattle.mask.specs.Steps.{groupAt}
+use Rattle.mask.proofs.OneGroup.{group-read, group-counted, contours-fine, contours-inside, contours-room, contours-end, stored-few, stored-clean, stored-room, stored, some-stored}
+use borrow.Author.Needs.{needs}
 use Rattle.mask.proofs.draw_group.Statement.{statement}
 use Rattle.mask.proofs.draw_group.Tie as tie
 
-head-at-requires : tie.Need-head-at-requires
-head-at-requires c κs = search needs
-
-enum-known-contours : tie.Need-enum-known-contours
-enum-known-contours c = search needs
-
-enum-told : tie.Need-enum-told
-enum-told c = search needs
-
 returns : tie.Need-returns
 returns c =
-    let args = c .before .before .before .before .before .before .args in
-    let pre = c .before .before .before .before .before .before .pre in
+    let group = c .before .before .before .before .before .before .pre .1 .1 in
     let head-at = c .before .before .head-at in
-    let there = group-there (args .words .now) (args .at) (pre .1 .1 .0) (pre .1 .1 .1 .0) in
-    absurd (not-refused (head-at .result .contours) (there .count) (head-at .ensures .1 ∙ there .read) (c .enum-told .given .1))
-
-add-contours : tie.Need-add-contours
-add-contours c =
-    let args = c .before .before .before .before .before .before .before .args in
-    let pre = c .before .before .before .before .before .before .before .pre in
-    let there = group-there (args .words .now) (args .at) (pre .1 .1 .0) (pre .1 .1 .1 .0) in
-    let w = there .within in
-    omega arith
+    absurd (group-counted group (head-at .ensures .1) (c .enum-told .given .1))
 
 contours-requires : tie.Need-contours-requires
 contours-requires c κs =
-    let args = c .before .before .before .before .before .before .before .before .args in
-    let pre = c .before .before .before .before .before .before .before .before .pre in
+    let room = c .before .before .before .before .before .before .before .before .pre .0 in
+    let group = c .before .before .before .before .before .before .before .before .pre .1 .1 in
     let head-at = c .before .before .before .before .head-at in
-    let count = c .before .before .contours in
-    let there = group-there (args .words .now) (args .at) (pre .1 .1 .0) (pre .1 .1 .1 .0) in
-    let e = same-count (head-at .result .contours) (count .given .0 .0) (there .count) (count .given .1) (head-at .ensures .1 ∙ there .read) in (
-      contours-fine (args .mask .now) (args .floats .now) (args .counters .now) (args .size) (args .points) (args .words .now) (args .at) (pre .0) (pre .1 .1 .1 .1) there (count .given .0 .0) e,
-      (there .within, (contours-room (args .mask .now) (args .floats .now) (args .counters .now) (args .size) (args .points) (args .words .now) (args .at) (pre .0) (pre .1 .1 .1 .1) there (count .given .0 .0) e, pre .0 .low)),
-    )
+    let count = c .before .before .contours .given in
+    let read = group-read group (head-at .ensures .1) (count .1) in
+    (contours-fine room group read, (contours-inside room group read, (contours-room room group read, room .size-allowed .1)))
 
 resolve-requires : tie.Need-resolve-requires
 resolve-requires c κs =
     let args = c .before .before .before .before .before .before .before .before .before .before .before .before .before .before .args in
     let pre = c .before .before .before .before .before .before .before .before .before .before .before .before .before .before .pre in
+    let room = pre .0 in
+    let group = pre .1 .1 in
     let head-at = c .before .before .before .before .before .before .before .before .before .before .head-at in
-    let count = c .before .before .before .before .before .before .before .before .contours in
+    let count = c .before .before .before .before .before .before .before .before .contours .given in
     let pushed = c .before .before .before .before .before .contours2 in
-    let rule = head-at .ensures .0 ∙ ap isEvenOdd (sym (word-here (args .words .now) (args .at) (pre .1 .1 .0))) in
-    let there = group-there (args .words .now) (args .at) (pre .1 .1 .0) (pre .1 .1 .1 .0) in
-    let e = same-count (head-at .result .contours) (count .given .0 .0) (there .count) (count .given .1) (head-at .ensures .1 ∙ there .read) in (
-      stored-room (args .mask .now) (args .floats .now) (args .counters .now) (args .size) (args .points) (args .words .now) (args .at) (pre .0) (pre .1 .1 .1 .1) there (count .given .0 .0) e (pushed .last .1 .1 .1 .0) (pushed .result .count) (pushed .kept .1 .1 .1 .0) (pushed .ensures .0),
-      (stored-clean (args .mask .now) (args .floats .now) (args .counters .now) (args .size) (args .points) (args .words .now) (args .at) (pre .0) (pre .1 .1 .1 .1) there (count .given .0 .0) e (pushed .last .1 .1 .1 .0) (pushed .result .count) (pushed .kept .1 .1 .1 .0) (pushed .ensures .0) (pre .1 .0), (stored-few (args .mask .now) (args .floats .now) (args .counters .now) (args .size) (args .points) (args .words .now) (args .at) (pre .0) (pre .1 .1 .1 .1) there (count .given .0 .0) e (pushed .last .1 .1 .1 .0) (pushed .result .count) (pushed .kept .1 .1 .1 .0) (pushed .ensures .0), stored (args .mask .now) (args .floats .now) (args .counters .now) (args .size) (args .points) (args .words .now) (args .at) (pre .0) (pre .1 .1 .1 .1) there (count .given .0 .0) e (pushed .last .1 .1 .1 .0) (pushed .result .count) (pushed .kept .1 .1 .1 .0) (pushed .ensures .0) (head-at .result .«even_odd») rule)),
+    let long = pushed .kept .1 .1 .1 .0 in
+    let rule = head-at .ensures .0 ∙ ap isEvenOdd (sym (word-here (args .words .now) (args .at) (group .inside))) in
+    let read = group-read group (head-at .ensures .1) (count .1) in (
+      stored-room room group read long (pushed .ensures .0),
+      (
+        stored-clean room group read long (pushed .ensures .0) (pre .1 .0),
+        (stored-few room group read long (pushed .ensures .0), some-stored room group read long (pushed .ensures .0) rule),
+      ),
     )
-
-same-length : tie.Need-same-length
-same-length c = search needs
-
-same-length-2 : tie.Need-same-length-2
-same-length-2 c = search needs
-
-same-length-3 : tie.Need-same-length-3
-same-length-3 c = search needs
 
 returns-2 : tie.Need-returns-2
 returns-2 c =
     let args = c .before .before .before .before .before .before .before .before .before .before .before .before .before .before .before .before .before .before .before .before .before .args in
-    let pre = c .before .before .before .before .before .before .before .before .before .before .before .before .before .before .before .before .before .before .before .before .before .pre in
+    let room = c .before .before .before .before .before .before .before .before .before .before .before .before .before .before .before .before .before .before .before .before .before .pre .0 in
+    let group = c .before .before .before .before .before .before .before .before .before .before .before .before .before .before .before .before .before .before .before .before .before .pre .1 .1 in
     let head-at = c .before .before .before .before .before .before .before .before .before .before .before .before .before .before .before .before .before .head-at in
-    let count = c .before .before .before .before .before .before .before .before .before .before .before .before .before .before .before .contours in
+    let count = c .before .before .before .before .before .before .before .before .before .before .before .before .before .before .before .contours .given in
     let pushed = c .before .before .before .before .before .before .before .before .before .before .before .before .contours2 in
-    let rule = head-at .ensures .0 ∙ ap isEvenOdd (sym (word-here (args .words .now) (args .at) (pre .1 .1 .0))) in
+    let rule = head-at .ensures .0 ∙ ap isEvenOdd (sym (word-here (args .words .now) (args .at) (group .inside))) in
     let resolve = c .before .before .before .before .before .before .resolve in
-    let there = group-there (args .words .now) (args .at) (pre .1 .1 .0) (pre .1 .1 .1 .0) in
-    let e = same-count (head-at .result .contours) (count .given .0 .0) (there .count) (count .given .1) (head-at .ensures .1 ∙ there .read) in (
-      resolve .ensures .0 (readOr noGroup (readGroup 0 (drop (args .at) (args .words .now)))) (holds (args .mask .now) (args .floats .now) (args .counters .now) (args .size) (args .points) (args .words .now) (args .at) (pre .0) (pre .1 .1 .1 .1) there (count .given .0 .0) e (pushed .last .1 .1 .1 .0) (pushed .result .count) (pushed .kept .1 .1 .1 .0) (pushed .ensures .0) (head-at .result .«even_odd») rule),
-      (pushed .ensures .1 ∙ contours-end (args .mask .now) (args .floats .now) (args .counters .now) (args .size) (args .points) (args .words .now) (args .at) (pre .0) (pre .1 .1 .1 .1) there (count .given .0 .0) e, resolve .ensures .1),
+    let read = group-read group (head-at .ensures .1) (count .1) in (
+      resolve .ensures .0 (groupAt (args .words .now) (args .at)) (stored room group read (pushed .kept .1 .1 .1 .0) (pushed .ensures .0) rule),
+      (pushed .ensures .1 ∙ contours-end room group read, resolve .ensures .1),
     )
 
 pub draw-group-spec : {M : Type 1} → statement M
 draw-group-spec =
     tie.close
-    (tie.spec
-    head-at-requires
-    enum-known-contours
-    enum-told
-    returns
-    add-contours
-    contours-requires
-    resolve-requires
-    same-length
-    same-length-2
-    same-length-3
-    returns-2)
+    (tie.spec (λ c κs. search needs) (λ c. search needs) (λ c. search needs) returns (λ c. search needs)
+    contours-requires resolve-requires (λ c. search needs) (λ c. search needs) (λ c. search needs) returns-2)

@@ -1,4 +1,5 @@
--- `row::ceil_column` meets its contract: a column is below 8,192, so it is a float and the next one fits. Assumes nothing.
+-- `row::ceil_column` meets its contract: a column is below 8,192, so it is a float and the next one fits. Assumes
+-- nothing.
 use mathlib.Core.Path.{refl}
 use native.Mathlib.Omega.{arith}
 use lib.Ieee.Casts.{toUnsigned-lt}
@@ -6,9 +7,6 @@ use Rattle.row.specs.Row.{ceilColumn}
 use borrow.Author.Needs.{needs}
 use Rattle.row.proofs.ceil_column.Statement.{statement}
 use Rattle.row.proofs.ceil_column.Tie as tie
-
-to-column-requires : tie.Need-to-column-requires
-to-column-requires c κs = search needs
 
 from-whole-requires : tie.Need-from-whole-requires
 from-whole-requires c κs = omega (arith, toUnsigned-lt 13 (c .before .args .x))
@@ -26,4 +24,4 @@ returns-2 c = rw (← (c .before .before .to-column .ensures), ← (c .before .f
 
 pub ceil-column-spec : {M : Type 1} → statement M
 ceil-column-spec =
-    tie.close (tie.spec to-column-requires from-whole-requires add-result returns returns-2)
+    tie.close (tie.spec (λ c κs. search needs) from-whole-requires add-result returns returns-2)

@@ -9,4 +9,5 @@ returns-2 : tie.Need-returns-2
 returns-2 c = simp (c .if1 .left)
 
 pub left-end-spec : {M : Type 1} → statement M
-left-end-spec = tie.close (tie.spec returns returns-2)
+left-end-spec =
+    tie.close (tie.spec returns returns-2)

@@ -9,4 +9,5 @@ returns-2 : tie.Need-returns-2
 returns-2 c = simp (c .if1 .left)
 
 pub right-end-spec : {M : Type 1} → statement M
-right-end-spec = tie.close (tie.spec returns returns-2)
+right-end-spec =
+    tie.close (tie.spec returns returns-2)

@@ -7,21 +7,6 @@ use borrow.Author.Needs.{needs}
 use Rattle.sweep.proofs.fill_run.Statement.{statement}
 use Rattle.sweep.proofs.fill_run.Tie as tie
 
-sub-fill : tie.Need-sub-fill
-sub-fill c = search needs
-
-part-fill-start : tie.Need-part-fill-start
-part-fill-start c = search needs
-
-part-fill-end : tie.Need-part-fill-end
-part-fill-end c = search needs
-
-fill-requires : tie.Need-fill-requires
-fill-requires c κs = search needs
-
-same-length : tie.Need-same-length
-same-length c = search needs
-
 returns : tie.Need-returns
 returns c =
     let args = c .before .before .before .before .before .before .args in
@@ -35,4 +20,5 @@ returns-2 c =
 pub fill-run-spec : {M : Type 1} → statement M
 fill-run-spec =
     tie.close
-    (tie.spec sub-fill part-fill-start part-fill-end fill-requires same-length returns returns-2)
+    (tie.spec (λ c. search needs) (λ c. search needs) (λ c. search needs) (λ c κs. search needs)
+    (λ c. search needs) returns returns-2)

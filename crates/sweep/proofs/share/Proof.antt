@@ -1,15 +1,9 @@
 -- `sweep::share` meets its contract. Assumes nothing.
 use mathlib.Core.Path.{sym}
-use Rattle.row.specs.Sweep.{shareOf}
+use Rattle.sweep.specs.Bytes.{shareOf}
 use borrow.Author.Needs.{needs}
 use Rattle.sweep.proofs.share.Statement.{statement}
 use Rattle.sweep.proofs.share.Tie as tie
-
-abs-requires : tie.Need-abs-requires
-abs-requires c κs = search needs
-
-min-requires : tie.Need-min-requires
-min-requires c κs = search needs
 
 returns : tie.Need-returns
 unfolding shareOf
@@ -24,4 +18,5 @@ unfolding shareOf
 returns-3 c = simp (c .before .if1 .left, sym (c .before .before .abs .ensures)) (c .min .ensures)
 
 pub share-spec : {M : Type 1} → statement M
-share-spec = tie.close (tie.spec abs-requires min-requires returns returns-2 returns-3)
+share-spec =
+    tie.close (tie.spec (λ c κs. search needs) (λ c κs. search needs) returns returns-2 returns-3)

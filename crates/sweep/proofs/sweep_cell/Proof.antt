@@ -1,6 +1,8 @@
 -- `sweep::sweep_cell` meets its contract: past the run, and past the cell. Assumes nothing.
 use mathlib.Core.Path.{refl}
+use Prim.Native.Nat.{_<_}
 use native.Mathlib.Omega.{arith}
+use lib.ListN.{length}
 use Rattle.sweep.proofs.Runs.{cell-in-line, cell-moved}
 use borrow.Author.Needs.{needs}
 use Rattle.sweep.proofs.sweep_cell.Statement.{statement}
@@ -9,71 +11,33 @@ use Rattle.sweep.proofs.sweep_cell.Tie as tie
 fill-run-requires : tie.Need-fill-run-requires
 fill-run-requires c κs =
     let pre = c .before .before .before .pre in
-    let s = pre .0 .same in let h = pre .1 .1 in omega arith
+    omega (arith, pre .0 .same, pre .1 .1)
 
-mul-winding : tie.Need-mul-winding
-mul-winding c = search needs
-
-slice-read-winding : tie.Need-slice-read-winding
-slice-read-winding c = search needs
-
-mul-cells : tie.Need-mul-cells
-mul-cells c = search needs
-
-slice-write-cells : tie.Need-slice-write-cells
-slice-write-cells c = search needs
-
-covered-requires : tie.Need-covered-requires
-covered-requires c κs = search needs
+-- past the run
+in-line : (c : tie.After-fill-run) → c .before .before .before .before .args .cell < length (c .fill-run .last .0)
+in-line c =
+    let start = c .before .before .before .before in
+    let pre = start .pre in
+    rw (cell-in-line (pre .0) (start .args .cell) (pre .1 .0) (pre .1 .1) (pre .1 .2) (c .fill-run .ensures)) (pre .1 .1)
 
 slice-read-plus : tie.Need-slice-read-plus
-slice-read-plus c =
-    let args = c .before .before .before .before .before .before .before .before .before .before .args in
-    let pre = c .before .before .before .before .before .before .before .before .before .before .pre in
-    let fill-run = c .before .before .before .before .before .before .fill-run in
-    let l = cell-in-line (args .even-odd) (args .line .now) (args .cells .now) (args .run) (pre .0) (args .cell) (pre .1 .0) (pre .1 .1) (pre .1 .2) (fill-run .last .0) (fill-run .ensures) in let h = pre .1 .1 in omega arith
-
-plus-requires : tie.Need-plus-requires
-plus-requires c κs = search needs
+slice-read-plus c = let l = in-line (c .before .before .before .before .before .before) in omega arith
 
 slice-write-line : tie.Need-slice-write-line
-slice-write-line c =
-    let args = c .before .before .before .before .before .before .before .before .before .before .before .args in
-    let pre = c .before .before .before .before .before .before .before .before .before .before .before .pre in
-    let fill-run = c .before .before .before .before .before .before .before .fill-run in
-    let l = cell-in-line (args .even-odd) (args .line .now) (args .cells .now) (args .run) (pre .0) (args .cell) (pre .1 .0) (pre .1 .1) (pre .1 .2) (fill-run .last .0) (fill-run .ensures) in let h = pre .1 .1 in omega arith
-
-add-t11 : tie.Need-add-t11
-add-t11 c = search needs
-
-same-length : tie.Need-same-length
-same-length c = search needs
-
-same-length-2 : tie.Need-same-length-2
-same-length-2 c = search needs
+slice-write-line c = let l = in-line (c .before .before .before .before .before .before .before) in omega arith
 
 returns : tie.Need-returns
 returns c =
-    let args = c .before .before .before .before .before .before .before .before .before .before .before .args in
-    let pre = c .before .before .before .before .before .before .before .before .before .before .before .pre in
-    let fill-run = c .before .before .before .before .before .before .before .fill-run in
-    let covered = c .before .before .covered in
-    (cell-moved (args .even-odd) (args .line .now) (args .cells .now) (args .run) (pre .0) (args .cell) (pre .1 .0) (pre .1 .1) (pre .1 .2) (fill-run .last .0) (fill-run .ensures) (covered .result) (c .plus .result) (c .before .before .before .before .slice-known4 .given (args .cell)) (covered .ensures) (c .plus .ensures), (refl, refl))
+    let filled = c .before .before .before .before .before .before .before in
+    let start = filled .before .before .before .before in
+    let pre = start .pre in
+    let area = c .before .before .before .before .slice-known4 .given (start .args .cell) in
+    let moved = cell-moved (pre .0) (start .args .cell) (pre .1 .0) (pre .1 .1) (pre .1 .2) (filled .fill-run .ensures) in
+    (moved area (c .before .before .covered .ensures) (c .plus .ensures), (refl, refl))
 
 pub sweep-cell-spec : {M : Type 1} → statement M
 sweep-cell-spec =
     tie.close
-    (tie.spec
-    fill-run-requires
-    mul-winding
-    slice-read-winding
-    mul-cells
-    slice-write-cells
-    covered-requires
-    slice-read-plus
-    plus-requires
-    slice-write-line
-    add-t11
-    same-length
-    same-length-2
-    returns)
+    (tie.spec fill-run-requires (λ c. search needs) (λ c. search needs) (λ c. search needs)
+    (λ c. search needs) (λ c κs. search needs) slice-read-plus (λ c κs. search needs) slice-write-line
+    (λ c. search needs) (λ c. search needs) (λ c. search needs) returns)

@@ -8,15 +8,6 @@ use Rattle.words.proofs.Reader.{count-of}
 use Rattle.words.proofs.head_at.Statement.{statement}
 use Rattle.words.proofs.head_at.Tie as tie
 
-pair-at-requires : tie.Need-pair-at-requires
-pair-at-requires c κs = search needs
-
-is-even-odd-requires : tie.Need-is-even-odd-requires
-is-even-odd-requires c κs = search needs
-
-count-requires : tie.Need-count-requires
-count-requires c κs = search needs
-
 returns : tie.Need-returns
 returns c =
     let args = c .before .before .before .args in
@@ -26,4 +17,5 @@ returns c =
     )
 
 pub head-at-spec : {M : Type 1} → statement M
-head-at-spec = tie.close (tie.spec pair-at-requires is-even-odd-requires count-requires returns)
+head-at-spec =
+    tie.close (tie.spec (λ c κs. search needs) (λ c κs. search needs) (λ c κs. search needs) returns)

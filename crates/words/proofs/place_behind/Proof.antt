@@ -7,11 +7,6 @@ use Rattle.words.proofs.place_behind.Tie as tie
 returns : tie.Need-returns
 returns c = behind-end (c .before .args .words .now) (c .before .args .at) (c .if1 .taken)
 
-add-result : tie.Need-add-result
-add-result c = search needs
-
-returns-2 : tie.Need-returns-2
-returns-2 c = search needs
-
 pub place-behind-spec : {M : Type 1} → statement M
-place-behind-spec = tie.close (tie.spec returns add-result returns-2)
+place-behind-spec =
+    tie.close (tie.spec returns (λ c. search needs) (λ c. search needs))

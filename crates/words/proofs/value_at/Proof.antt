@@ -11,16 +11,11 @@ use Rattle.words.proofs.value_at.Tie as tie
 returns : tie.Need-returns
 returns c = word-missing (c .before .args .words .now) (c .before .args .at) (c .if1 .taken)
 
-mul-t3 : tie.Need-mul-t3
-mul-t3 c = search needs
-
-shared-slice-copy-out-t6 : tie.Need-shared-slice-copy-out-t6
-shared-slice-copy-out-t6 c = search needs
-
 returns-2 : tie.Need-returns-2
 returns-2 c =
     let w = getD (c .before .before .args .words .now) (c .before .before .args .at) (pos 0) in
     rw (toZ-ofZ w32 w (sfits-of (c .t6 .given))) (word-here (c .before .before .args .words .now) (c .before .before .args .at) (c .before .if1 .left))
 
 pub value-at-spec : {M : Type 1} → statement M
-value-at-spec = tie.close (tie.spec returns mul-t3 shared-slice-copy-out-t6 returns-2)
+value-at-spec =
+    tie.close (tie.spec returns (λ c. search needs) (λ c. search needs) returns-2)

@@ -5,13 +5,10 @@ use native.Mathlib.Omega.{arith}
 use Prim.Native.Nat.{_+_}
 use lib.IntN.{pos}
 use lib.ListN.{getD}
-use Rattle.words.specs.Words.{beyond}
+use Rattle.word_list.specs.Words.{beyond}
 use Rattle.words.proofs.Reader.{word-here, word-there}
 use Rattle.contour.proofs.Point.at.Statement.{statement}
 use Rattle.contour.proofs.Point.at.Tie as tie
-
-pair-at-requires : tie.Need-pair-at-requires
-pair-at-requires c κs = search needs
 
 coordinate-requires : tie.Need-coordinate-requires
 coordinate-requires c κs w is =
@@ -33,4 +30,5 @@ returns c =
     )
 
 pub at-spec : {M : Type 1} → statement M
-at-spec = tie.close (tie.spec pair-at-requires coordinate-requires coordinate-requires-2 returns)
+at-spec =
+    tie.close (tie.spec (λ c κs. search needs) coordinate-requires coordinate-requires-2 returns)

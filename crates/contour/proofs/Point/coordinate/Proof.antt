@@ -5,15 +5,9 @@ use native.Mathlib.Omega.{arith}
 use Prim.Native.Nat.{ℕ}
 use mir.Syntax.{w32}
 use mir.ValLaws.{toZ-ofZ}
-use Rattle.contour.proofs.Walking.{near-float}
+use Rattle.contour.proofs.Walking.{in-limit-float}
 use Rattle.contour.proofs.Point.coordinate.Statement.{statement}
 use Rattle.contour.proofs.Point.coordinate.Tie as tie
-
-enum-known-word : tie.Need-enum-known-word
-enum-known-word c = search needs
-
-enum-told : tie.Need-enum-told
-enum-told c = search needs
 
 returns : tie.Need-returns
 returns c w is =
@@ -24,7 +18,7 @@ returns c w is =
 int-to-float-result : tie.Need-int-to-float-result
 int-to-float-result c =
     let word = c .before .before .word .given in
-    rw (toZ-ofZ w32 (word .0 .0) (sfits-of (c .before .known-told .given .0 .1))) (near-float (word .0 .0) (c .before .before .before .before .pre (word .0 .0) (word .1)))
+    rw (toZ-ofZ w32 (word .0 .0) (sfits-of (c .before .known-told .given .0 .1))) (in-limit-float (word .0 .0) (c .before .before .before .before .pre (word .0 .0) (word .1)))
 
 returns-2 : tie.Need-returns-2
 returns-2 c w is =
@@ -35,4 +29,4 @@ returns-2 c w is =
 
 pub coordinate-spec : {M : Type 1} → statement M
 coordinate-spec =
-    tie.close (tie.spec enum-known-word enum-told returns int-to-float-result returns-2)
+    tie.close (tie.spec (λ c. search needs) (λ c. search needs) returns int-to-float-result returns-2)

@@ -9,4 +9,5 @@ unfolding crossOf
 returns c = refl
 
 pub cross-spec : {M : Type 1} → statement M
-cross-spec = tie.close (tie.spec returns)
+cross-spec =
+    tie.close (tie.spec returns)

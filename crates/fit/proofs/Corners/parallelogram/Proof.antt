@@ -4,21 +4,9 @@ use borrow.Author.Tests.{not-true, not-false}
 use Rattle.fit.proofs.Corners.parallelogram.Statement.{statement}
 use Rattle.fit.proofs.Corners.parallelogram.Tie as tie
 
-centred-requires : tie.Need-centred-requires
-centred-requires c κs = tt
-
 returns : tie.Need-returns
 unfolding cornersBoxOf
 returns c = rw (← c .before .centred .ensures, not-true (c .before .centred .result) (c .if1 .taken))
-
-half-side-requires : tie.Need-half-side-requires
-half-side-requires c κs = tt
-
-half-side-requires-2 : tie.Need-half-side-requires-2
-half-side-requires-2 c κs = tt
-
-spanned-requires : tie.Need-spanned-requires
-spanned-requires c κs = tt
 
 returns-2 : tie.Need-returns-2
 unfolding cornersBoxOf
@@ -31,11 +19,4 @@ returns-2 c =
 
 pub parallelogram-spec : {M : Type 1} → statement M
 parallelogram-spec =
-    tie.close
-    (tie.spec
-    centred-requires
-    returns
-    half-side-requires
-    half-side-requires-2
-    spanned-requires
-    returns-2)
+    tie.close (tie.spec (λ c κs. tt) returns (λ c κs. tt) (λ c κs. tt) (λ c κs. tt) returns-2)

@@ -12,4 +12,5 @@ unfolding collapsedOf
 returns-2 c = simp (c .if1 .left)
 
 pub collapsed-spec : {M : Type 1} → statement M
-collapsed-spec = tie.close (tie.spec returns returns-2)
+collapsed-spec =
+    tie.close (tie.spec returns returns-2)

@@ -33,7 +33,9 @@ unfolding unpackedOf
 returns-7 c =
     let other = c .match .rest in
     let byte = c .before .args .byte in
-    simp (ne-eqb byte 0 (other .0 .0 .0 .0 .0 .1), ne-eqb byte 1 (other .0 .0 .0 .0 .1), ne-eqb byte 2 (other .0 .0 .0 .1), ne-eqb byte 3 (other .0 .0 .1), ne-eqb byte 4 (other .0 .1), ne-eqb byte 5 (other .1))
+    let other₄ = other .0 in
+    let other₂ = other₄ .0 .0 in
+    simp (ne-eqb byte 0 (other₂ .0 .0 .1), ne-eqb byte 1 (other₂ .0 .1), ne-eqb byte 2 (other₂ .1), ne-eqb byte 3 (other₄ .0 .1), ne-eqb byte 4 (other₄ .1), ne-eqb byte 5 (other .1))
 
 pub from-byte-spec : {M : Type 1} → statement M
 from-byte-spec =

@@ -3,12 +3,6 @@ use borrow.Author.Needs.{needs}
 use Rattle.shape.proofs.MaybeBox.answer.Statement.{statement}
 use Rattle.shape.proofs.MaybeBox.answer.Tie as tie
 
-enum-known-self : tie.Need-enum-known-self
-enum-known-self c = search needs
-
-enum-told : tie.Need-enum-told
-enum-told c = search needs
-
 returns : tie.Need-returns
 returns c = rw (c .enum-told .given .1)
 
@@ -16,4 +10,5 @@ returns-2 : tie.Need-returns-2
 returns-2 c = rw (c .before .self .given .1)
 
 pub answer-spec : {M : Type 1} → statement M
-answer-spec = tie.close (tie.spec enum-known-self enum-told returns returns-2)
+answer-spec =
+    tie.close (tie.spec (λ c. search needs) (λ c. search needs) returns returns-2)

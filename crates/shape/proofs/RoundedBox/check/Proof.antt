@@ -3,12 +3,6 @@ use Rattle.shape.specs.Checks.{boxCheckOf}
 use Rattle.shape.proofs.RoundedBox.check.Statement.{statement}
 use Rattle.shape.proofs.RoundedBox.check.Tie as tie
 
-in-range-requires : tie.Need-in-range-requires
-in-range-requires c κs = tt
-
-improper-requires : tie.Need-improper-requires
-improper-requires c κs = tt
-
 returns : tie.Need-returns
 unfolding boxCheckOf
 returns c = rw (← c .before .before .before .in-range .ensures, c .before .before .if1 .taken, ← c .before .improper .ensures, c .if2 .taken)
@@ -22,4 +16,5 @@ unfolding boxCheckOf
 returns-3 c = rw (← c .before .in-range .ensures, c .if1 .left)
 
 pub check-spec : {M : Type 1} → statement M
-check-spec = tie.close (tie.spec in-range-requires improper-requires returns returns-2 returns-3)
+check-spec =
+    tie.close (tie.spec (λ c κs. tt) (λ c κs. tt) returns returns-2 returns-3)

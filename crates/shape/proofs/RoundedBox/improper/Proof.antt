@@ -3,12 +3,6 @@ use Rattle.shape.specs.Checks.{improperOf}
 use Rattle.shape.proofs.RoundedBox.improper.Statement.{statement}
 use Rattle.shape.proofs.RoundedBox.improper.Tie as tie
 
-improper-side-requires : tie.Need-improper-side-requires
-improper-side-requires c κs = tt
-
-improper-side-requires-2 : tie.Need-improper-side-requires-2
-improper-side-requires-2 c κs = tt
-
 returns : tie.Need-returns
 unfolding improperOf
 returns c = rw (← c .before .improper-side .ensures, c .if1 .taken)
@@ -19,4 +13,4 @@ returns-2 c = rw (← c .before .before .improper-side .ensures, c .before .if1 
 
 pub improper-spec : {M : Type 1} → statement M
 improper-spec =
-    tie.close (tie.spec improper-side-requires improper-side-requires-2 returns returns-2)
+    tie.close (tie.spec (λ c κs. tt) (λ c κs. tt) returns returns-2)

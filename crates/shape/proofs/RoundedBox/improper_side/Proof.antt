@@ -14,4 +14,5 @@ unfolding improperSideOf
 returns-2 c = ⊎-elim (λ w. cc) (λ w. rw (w .0 .left, ← w .1, c .if2 .left)) (c .before .if1 .came)
 
 pub improper-side-spec : {M : Type 1} → statement M
-improper-side-spec = tie.close (tie.spec returns returns-2)
+improper-side-spec =
+    tie.close (tie.spec returns returns-2)

@@ -3,22 +3,13 @@ use borrow.Author.Needs.{needs, sfits-of}
 use mathlib.Core.Path.{sym, ap, _∙_}
 use mir.Syntax.{w32}
 use mir.ValLaws.{toZ-ofZ}
-use Rattle.words.specs.Words.{beyond}
+use Rattle.word_list.specs.Words.{beyond}
 use Rattle.words.proofs.Reader.{end-coordinate, far-coordinate, good-coordinate}
 use Rattle.words.proofs.Word.coordinate.Statement.{statement}
 use Rattle.words.proofs.Word.coordinate.Tie as tie
 
-enum-known-self : tie.Need-enum-known-self
-enum-known-self c = search needs
-
-enum-told : tie.Need-enum-told
-enum-told c = search needs
-
 returns : tie.Need-returns
 returns c = end-coordinate (c .before .before .args .self) (c .enum-told .given .1)
-
-is-beyond-requires : tie.Need-is-beyond-requires
-is-beyond-requires c κs = search needs
 
 returns-2 : tie.Need-returns-2
 returns-2 c =
@@ -34,4 +25,5 @@ returns-3 c =
 
 pub coordinate-spec : {M : Type 1} → statement M
 coordinate-spec =
-    tie.close (tie.spec enum-known-self enum-told returns is-beyond-requires returns-2 returns-3)
+    tie.close
+    (tie.spec (λ c. search needs) (λ c. search needs) returns (λ c κs. search needs) returns-2 returns-3)

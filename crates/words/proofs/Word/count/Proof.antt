@@ -7,12 +7,6 @@ use Rattle.words.proofs.Reader.{end-count, negative-count, word-count}
 use Rattle.words.proofs.Word.count.Statement.{statement}
 use Rattle.words.proofs.Word.count.Tie as tie
 
-enum-known-self : tie.Need-enum-known-self
-enum-known-self c = search needs
-
-enum-told : tie.Need-enum-told
-enum-told c = search needs
-
 returns : tie.Need-returns
 returns c = end-count (c .before .before .args .self) (c .enum-told .given .1)
 
@@ -36,4 +30,5 @@ returns-3 c =
     rw e (word-count (c .before .before .before .before .args .self) (word .0 .0) (word .1) (rw e at (c .if1 .left)))
 
 pub count-spec : {M : Type 1} → statement M
-count-spec = tie.close (tie.spec enum-known-self enum-told returns returns-2 cast-t6 returns-3)
+count-spec =
+    tie.close (tie.spec (λ c. search needs) (λ c. search needs) returns returns-2 cast-t6 returns-3)

@@ -2,12 +2,9 @@
 use borrow.Author.Needs.{needs}
 use mir.Syntax.{w32}
 use mir.ValLaws.{toZ-ofZ}
-use Rattle.words.specs.Words.{beyond}
+use Rattle.word_list.specs.Words.{beyond}
 use Rattle.words.proofs.Word.is_beyond.Statement.{statement}
 use Rattle.words.proofs.Word.is_beyond.Tie as tie
-
-sub-if1 : tie.Need-sub-if1
-sub-if1 c = search needs
 
 returns : tie.Need-returns
 unfolding beyond
@@ -18,4 +15,5 @@ unfolding beyond
 returns-2 c = simp (toZ-ofZ w32 (c .before .args .x) (c .before .fits .x), rw (toZ-ofZ w32 (c .before .args .x) (c .before .fits .x)) at (c .if1 .left))
 
 pub is-beyond-spec : {M : Type 1} → statement M
-is-beyond-spec = tie.close (tie.spec sub-if1 returns returns-2)
+is-beyond-spec =
+    tie.close (tie.spec (λ c. search needs) returns returns-2)

@@ -1,0 +1,13 @@
+-- `beside::Sides::own` meets its contract. Assumes nothing.
+use Rattle.beside.specs.Shared.{ownSidesOf}
+use mathlib.Core.Path.{refl}
+use Rattle.beside.proofs.Sides.own.Statement.{statement}
+use Rattle.beside.proofs.Sides.own.Tie as tie
+
+returns : tie.Need-returns
+unfolding ownSidesOf
+returns c = refl
+
+pub own-spec : {M : Type 1} → statement M
+own-spec =
+    tie.close (tie.spec returns)

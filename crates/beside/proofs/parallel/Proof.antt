@@ -1,0 +1,14 @@
+-- `beside::parallel` meets its contract. Assumes nothing.
+use borrow.Author.Needs.{needs}
+use Rattle.beside.proofs.parallel.Statement.{statement}
+use Rattle.beside.proofs.parallel.Tie as tie
+
+returns : tie.Need-returns
+returns c = rw (← c .before .before .before .pair-check .ensures, c .before .fault .given .1)
+
+returns-2 : tie.Need-returns-2
+returns-2 c = rw (← c .before .before .before .pair-check .ensures, c .before .enum-told .given .1, ← c .parallel-unchecked .ensures)
+
+pub parallel-spec : {M : Type 1} → statement M
+parallel-spec =
+    tie.close (tie.spec (λ c κs. tt) (λ c. search needs) returns (λ c. search needs) (λ c κs. tt) returns-2)

@@ -1,0 +1,120 @@
+-- No outcome's number is a cause's (specs/Numbers.antt). Assumes nothing.
+use Prim.Native.Nat.{ℕ, _+_, _-_, _≤_}
+use mathlib.Core.Path.{_≡_, refl, sym, ap, _∙_}
+use mathlib.Core.Bool.{true, false}
+use mathlib.Core.List.{[], _∷_}
+use native.Mathlib.Omega.{arith}
+use lib.ListN.{getD, List·getD-eq-default}
+use Rattle.fault.specs.declared.Fault.{Fault}
+use Rattle.fault.specs.Number.{numberOf}
+use Rattle.fault.proofs.Numbers.{cause-numbers}
+use Rattle.mask.specs.declared.Outcome.{Outcome}
+use Rattle.mask.specs.declared.Outcome.the-variants as drawn
+use Rattle.mask.specs.Calls.{outcomeNumber}
+use Rattle.shape.specs.declared.BoxAnswer.{BoxAnswer}
+use Rattle.shape.specs.declared.BoxAnswer.the-variants as box
+use Rattle.clip_coverage.specs.declared.CoverageAnswer.{CoverageAnswer}
+use Rattle.clip_coverage.specs.declared.CoverageAnswer.the-variants as covered
+use Rattle.shape.specs.declared.BoundsAnswer.{BoundsAnswer}
+use Rattle.shape.specs.declared.BoundsAnswer.the-variants as bounds
+use Rattle.clip_coverage.specs.declared.DistanceAnswer.{DistanceAnswer}
+use Rattle.clip_coverage.specs.declared.DistanceAnswer.the-variants as distance
+use Rattle.shape.specs.declared.TestAnswer.{TestAnswer}
+use Rattle.shape.specs.declared.TestAnswer.the-variants as test
+use Rattle.touch.specs.declared.TouchAnswer.{TouchAnswer}
+use Rattle.touch.specs.declared.TouchAnswer.the-variants as touched
+use Rattle.boundary.specs.Outcomes.{Ordinary, done, none, yes, no, noFrame, place, ordinaryNumber}
+use Rattle.boundary.specs.Answers.{boxHanded, coverageHanded, boundsHanded, distanceHanded, testNumber, touchNumber}
+use Rattle.boundary.specs.Numbers.{CauseExactlyWhen, NumbersApart}
+
+-- ---- outcomes
+
+outside : (o : Ordinary) → 1 ≤ ordinaryNumber o → ordinaryNumber o ≤ 31 → ⊥
+outside done low high = omega arith
+outside none low high = omega arith
+outside yes low high = omega arith
+outside no low high = omega arith
+outside noFrame low high = omega arith
+outside (place k) low high = omega arith
+
+apart : (o : Ordinary) (f : Fault) → ordinaryNumber o ≡ numberOf f → ⊥
+apart o f e = let least = cause-numbers .least f in let most = cause-numbers .most f in outside o (omega arith) (omega arith)
+
+-- those below the places, by number; then the places
+abbrev outcome-at : ℕ → Ordinary
+outcome-at n = getD (done ∷ []) n (getD (none ∷ yes ∷ no ∷ noFrame ∷ []) (n - 32) (place (n - 256)))
+
+own-outcome : (o : Ordinary) → outcome-at (ordinaryNumber o) ≡ o
+own-outcome done = refl
+own-outcome none = refl
+own-outcome yes = refl
+own-outcome no = refl
+own-outcome noFrame = refl
+own-outcome (place k) =
+    let past-first : 1 ≤ 256 + k = omega arith in
+    let past-all : 4 ≤ 256 + k - 32 = omega arith in
+    List·getD-eq-default (done ∷ []) _ past-first ∙ List·getD-eq-default (none ∷ yes ∷ no ∷ noFrame ∷ []) _ past-all ∙ ap place (omega arith)
+
+outcomes : (o p : Ordinary) → ordinaryNumber o ≡ ordinaryNumber p → o ≡ p
+outcomes o p e = sym (own-outcome o) ∙ ap outcome-at e ∙ own-outcome p
+
+-- ---- answers
+
+-- what is left to show of a kind of answer: from 1 to 31 there are refusals alone
+module _ {A : Type 0} (number : A → ℕ) (refused : Fault → A) (always : (f : Fault) → number (refused f) ≡ numberOf f)
+    (within : (a : A) → 1 ≤ number a → number a ≤ 31 → (f : Fault) × (a ≡ refused f)) where
+  only : (a : A) (f : Fault) → number a ≡ numberOf f → a ≡ refused f
+  only a f e =
+      let least = cause-numbers .least f in
+      let most = cause-numbers .most f in
+      let w = within a (omega arith) (omega arith) in
+      w .1 ∙ ap refused (cause-numbers .apart (w .0) f (sym (always (w .0)) ∙ ap number (sym (w .1)) ∙ e))
+
+  told : CauseExactlyWhen number refused
+  told = record { only = only; always = always; within = within }
+
+outcome-within : (a : Outcome) → 1 ≤ outcomeNumber a → outcomeNumber a ≤ 31 → (f : Fault) × (a ≡ drawn.Refused f)
+outcome-within drawn.Done low high = absurd (outside done low high)
+outcome-within (drawn.Refused f) low high = (f, refl)
+
+box-within : (a : BoxAnswer) → 1 ≤ (boxHanded a) .number → (boxHanded a) .number ≤ 31 → (f : Fault) × (a ≡ box.Refused f)
+box-within (box.Box b) low high = absurd (outside done low high)
+box-within box.NoBox low high = absurd (outside none low high)
+box-within (box.Refused f) low high = (f, refl)
+
+coverage-within : (a : CoverageAnswer) → 1 ≤ (coverageHanded a) .number → (coverageHanded a) .number ≤ 31 → (f : Fault) × (a ≡ covered.Refused f)
+coverage-within (covered.Coverage k) low high = absurd (outside done low high)
+coverage-within covered.NoCoverage low high = absurd (outside none low high)
+coverage-within (covered.Refused f) low high = (f, refl)
+
+bounds-within : (a : BoundsAnswer) → 1 ≤ (boundsHanded a) .number → (boundsHanded a) .number ≤ 31 → (f : Fault) × (a ≡ bounds.Refused f)
+bounds-within (bounds.Bounds b) low high = absurd (outside done low high)
+bounds-within (bounds.Refused f) low high = (f, refl)
+
+distance-within : (a : DistanceAnswer) → 1 ≤ (distanceHanded a) .number → (distanceHanded a) .number ≤ 31 → (f : Fault) × (a ≡ distance.Refused f)
+distance-within (distance.Distance x) low high = absurd (outside done low high)
+distance-within (distance.Refused f) low high = (f, refl)
+
+test-within : (a : TestAnswer) → 1 ≤ testNumber a → testNumber a ≤ 31 → (f : Fault) × (a ≡ test.Refused f)
+test-within (test.Done true) low high = absurd (outside yes low high)
+test-within (test.Done false) low high = absurd (outside no low high)
+test-within (test.Refused f) low high = (f, refl)
+
+touch-within : (a : TouchAnswer) → 1 ≤ touchNumber a → touchNumber a ≤ 31 → (f : Fault) × (a ≡ touched.Refused f)
+touch-within (touched.Frame k) low high = absurd (outside (place k) low high)
+touch-within touched.NoFrame low high = absurd (outside noFrame low high)
+touch-within (touched.Refused f) low high = (f, refl)
+
+pub numbers-apart : NumbersApart
+numbers-apart = record {
+  causes = cause-numbers;
+  apart = apart;
+  outcomes = outcomes;
+  outcome = told outcomeNumber drawn.Refused (λ f. refl) outcome-within;
+  box = told (λ a. (boxHanded a) .number) box.Refused (λ f. refl) box-within;
+  coverage = told (λ a. (coverageHanded a) .number) covered.Refused (λ f. refl) coverage-within;
+  bounds = told (λ a. (boundsHanded a) .number) bounds.Refused (λ f. refl) bounds-within;
+  distance = told (λ a. (distanceHanded a) .number) distance.Refused (λ f. refl) distance-within;
+  test = told testNumber test.Refused (λ f. refl) test-within;
+  touch = told touchNumber touched.Refused (λ f. refl) touch-within;
+}

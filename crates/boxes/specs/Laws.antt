@@ -1,0 +1,24 @@
+-- The first place read back: it is the lowest of the places where the ask holds. Proved in proofs/First.antt.
+use Prim.Native.Nat.{ℕ, zero, suc, _<_}
+use mathlib.Core.Path.{_≡_}
+use mathlib.Core.Bool.{Bool, true, false}
+use mathlib.Core.List.{List, [], _∷_}
+use lib.ListN.{length}
+use Rattle.fault.specs.declared.Fault.{Fault}
+use Rattle.shape.specs.declared.RoundedBox.{RoundedBox}
+use Rattle.boxes.specs.declared.Ask.{Ask}
+use Rattle.boxes.specs.declared.Found.the-variants.{At, Nowhere, Refused}
+use Rattle.boxes.specs.First.{asksOf, firstFrom}
+
+-- at place k, counted from 0, there is a box of which the ask holds
+abbrev pub asksAt : List RoundedBox → Ask → ℕ → Bool
+asksAt [] q k = false
+asksAt (b ∷ bs) q zero = asksOf q b
+asksAt (b ∷ bs) q (suc k) = asksAt bs q k
+
+pub record LowestPlace : Type 0 where
+  pub within : (bs : List RoundedBox) (q : Ask) (k : ℕ) → asksAt bs q k ≡ true → k < length bs
+  pub holds : (bs : List RoundedBox) (q : Ask) (k : ℕ) → firstFrom 0 bs q ≡ At k → asksAt bs q k ≡ true
+  pub lowest : (bs : List RoundedBox) (q : Ask) (k : ℕ) → firstFrom 0 bs q ≡ At k → (j : ℕ) → j < k → asksAt bs q j ≡ false
+  pub nowhere : (bs : List RoundedBox) (q : Ask) → firstFrom 0 bs q ≡ Nowhere → (k : ℕ) → asksAt bs q k ≡ false
+  pub unrefused : (bs : List RoundedBox) (q : Ask) (f : Fault) → firstFrom 0 bs q ≡ Refused f → ⊥

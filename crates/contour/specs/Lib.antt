@@ -1,0 +1,2 @@
+-- Contours: the edges of contours.
+pub mod Contours

@@ -1,0 +1,25 @@
+-- `touch::answer` meets its contract. Assumes nothing.
+use mathlib.Core.Path.{subst}
+use Prim.Native.Nat.{_<_}
+use native.Mathlib.Omega.{arith}
+use borrow.Author.Needs.{needs}
+use Rattle.touch.specs.Finish.{PlaceFits}
+use Rattle.touch.proofs.answer.Statement.{statement}
+use Rattle.touch.proofs.answer.Tie as tie
+
+cast-t5 : tie.Need-cast-t5
+cast-t5 c =
+    let l : c .before .found .given .0 .0 < 256 = subst PlaceFits (c .before .found .given .1) (c .before .before .before .pre) in
+    omega arith
+
+returns : tie.Need-returns
+returns c = rw (c .before .found .given .1)
+
+returns-3 : tie.Need-returns-3
+returns-3 c = rw (c .before .found2 .given .1)
+
+pub answer-spec : {M : Type 1} → statement M
+answer-spec =
+    tie.close
+    (tie.spec (λ c. search needs) cast-t5 (λ c. search needs) (λ c. search needs) returns (λ c. search needs)
+    returns-3)
