@@ -11,8 +11,8 @@ use lib.ListN.{length}
 use Rattle.fault.specs.declared.Fault.the-variants.{BufferTooShort}
 use Rattle.shape.specs.declared.BoxAnswer.{BoxAnswer}
 use Rattle.shape.specs.declared.BoxAnswer.the-variants as box
-use Rattle.clip_coverage.specs.declared.CoverageAnswer.{CoverageAnswer}
-use Rattle.clip_coverage.specs.declared.CoverageAnswer.the-variants as covered
+use Rattle.covering.specs.declared.CoverageAnswer.{CoverageAnswer}
+use Rattle.covering.specs.declared.CoverageAnswer.the-variants as covered
 use Rattle.shape.specs.declared.BoundsAnswer.{BoundsAnswer}
 use Rattle.shape.specs.declared.BoundsAnswer.the-variants as bounds
 use Rattle.clip_coverage.specs.declared.DistanceAnswer.{DistanceAnswer}
@@ -20,8 +20,10 @@ use Rattle.clip_coverage.specs.declared.DistanceAnswer.the-variants as distance
 use Rattle.shape.specs.declared.TestAnswer.{TestAnswer}
 use Rattle.shape.specs.declared.TestAnswer.the-variants as test
 use Rattle.shape.specs.Calls.{transformedCall, boundsCall}
-use Rattle.clip_coverage.specs.Calls.{coverageCall, distanceCall, containsCall}
-use Rattle.beside.specs.Calls.{parallelCall, rectIntersectionCall}
+use Rattle.clip_coverage.specs.Calls.{distanceCall, containsCall}
+use Rattle.covering.specs.Calls.{coverageCall}
+use Rattle.beside.specs.Calls.{parallelCall}
+use Rattle.sides.specs.Calls.{rectIntersectionCall}
 use Rattle.overlap.specs.Calls.{intersectionCall}
 use Rattle.laying.specs.Laying.{Laying, laying}
 use Rattle.mask.specs.Calls.{Drawing, drawing, lent, drawAnswer, maskAfterDrawing, floatsAfterDrawing, countersAfterDrawing, layAnswer, maskAfterLaying}

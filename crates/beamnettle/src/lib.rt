@@ -128,7 +128,7 @@ pub extern "C" fn beamnettle_rect_intersection(one: &[f32], two: &[f32], out: &m
         return TOO_SHORT;
     }
     boundary::hand_box(
-        beside::rect_intersection(boxes::box_at(one, 0), boxes::box_at(two, 0)),
+        sides::rect_intersection(boxes::box_at(one, 0), boxes::box_at(two, 0)),
         out,
     )
 }
@@ -141,7 +141,7 @@ pub extern "C" fn beamnettle_coverage(b: &[f32], fringe: f32, out: &mut [f32]) -
     if b.len() < BOX || out.len() < COVERAGE {
         return TOO_SHORT;
     }
-    boundary::hand_coverage(clip_coverage::coverage(boxes::box_at(b, 0), fringe), out)
+    boundary::hand_coverage(covering::coverage(boxes::box_at(b, 0), fringe), out)
 }
 
 #[no_mangle]

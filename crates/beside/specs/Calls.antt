@@ -1,13 +1,11 @@
--- The public calls: document 01's refusals in its order, then what shape.rs answers. Definitions only.
+-- The public call: document 01's refusals in its order, then what shape.rs answers. Definitions only.
 use Rattle.fault.specs.declared.Check.{Check}
 use Rattle.fault.specs.Check.{_andThen_}
 use Rattle.shape.specs.declared.RoundedBox.{RoundedBox}
-use Rattle.shape.specs.declared.BoxAnswer.{BoxAnswer}
 use Rattle.shape.specs.declared.TestAnswer.{TestAnswer}
 use Rattle.shape.specs.Checks.{boxCheckOf}
-use Rattle.shape.specs.Calls.{boxUnless, testUnless}
+use Rattle.shape.specs.Calls.{testUnless}
 use Rattle.beside.specs.Alongside.{parallelOf}
-use Rattle.beside.specs.Shared.{rectIntersectionOf}
 
 -- Document 01: 'per box 1, 2, first box before second, then 1 for a lone frame, fringe and point'
 
@@ -17,6 +15,3 @@ pairCheckOf b other = boxCheckOf b andThen boxCheckOf other
 
 abbrev pub parallelCall : RoundedBox → RoundedBox → TestAnswer
 parallelCall b other = testUnless (pairCheckOf b other) (parallelOf b other)
-
-abbrev pub rectIntersectionCall : RoundedBox → RoundedBox → BoxAnswer
-rectIntersectionCall b other = boxUnless (pairCheckOf b other) (rectIntersectionOf b other)

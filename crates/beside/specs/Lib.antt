@@ -1,5 +1,3 @@
--- Alongside: a box placed in another's frame. Shared: the sides that two boxes share, and the square box between them.
--- Calls: the public calls.
+-- Alongside: a box placed in another's frame. Calls: the public call.
 pub mod Alongside
-pub mod Shared
 pub mod Calls

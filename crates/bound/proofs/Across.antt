@@ -28,7 +28,7 @@ use Rattle.rounding.proofs.Exactly.{is-same, sub-exact}
 use Rattle.rounding.proofs.Relative.{Approx, approx-self, add-approx, div-approx}
 use Rattle.rounding.proofs.Analyse.{Known, Leaf, leaf, op, plus, minus, times, auto, analyse}
 use Rattle.float.specs.Ops.{_⊕_, _⊖_, _⊗_, f½, f1}
-use Rattle.float.specs.Whole.{ofWhole}
+use Rattle.whole.specs.Whole.{ofWhole}
 use Rattle.winding.proofs.MeanOf.{G}
 use Rattle.winding.proofs.Cells.{G-right, G-left, G-first, G-between, G-last}
 use Rattle.bound.proofs.Entries.{Entry, entry, pick, tally, worth, size, before, anywhere, prefix, total, Fine, Rising, plus-none}

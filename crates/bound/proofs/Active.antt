@@ -27,7 +27,7 @@ use Rattle.winding.specs.Winding.{exactCoordinate, crosses}
 use Rattle.winding.proofs.Crosses.{crosses-yes, crosses-do}
 use Rattle.float.specs.Ops.{_⊖_, _⊘_, f0, f1, f-1}
 use Rattle.float.specs.Simple.{maxOf}
-use Rattle.float.specs.Whole.{columnOf, ofWhole}
+use Rattle.whole.specs.Whole.{columnOf, ofWhole}
 use Rattle.edge.specs.declared.Edge.{Edge}
 use Rattle.edge.specs.Edges.{slopedOf, edgeBetween, startRow}
 use Rattle.contour.specs.Contours.{subpixels, coordinateOf}

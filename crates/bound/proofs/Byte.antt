@@ -20,8 +20,8 @@ use Rattle.rounding.specs.Rounding.{Rounds}
 use Rattle.rounding.proofs.Round.{near-to, sum-near}
 use Rattle.rounding.proofs.Ops.{mul-rounds, add-rounds}
 use Rattle.float.specs.Ops.{_⊕_, _⊗_, f0, f½}
-use Rattle.float.specs.Whole.{byteOf}
-use Rattle.float.proofs.CastBelief.{byte-below}
+use Rattle.whole.specs.Whole.{byteOf}
+use Rattle.whole.proofs.CastBelief.{byte-below}
 use Rattle.sweep.specs.Bytes.{f255, coveredOf, shareOf}
 use Rattle.winding.specs.Winding.{nonZeroShare, modulo2, evenOddShare}
 use Rattle.bound.proofs.Adds.{windingError}

@@ -16,9 +16,10 @@ use Rattle.word_list.specs.Words.{Point, pointsOf}
 use Rattle.word_list.specs.Writer.{PointInLimit, PointsInLimit, ContoursInLimit}
 use Rattle.winding.specs.Winding.{ExactEdge, exactPoint, exactWalk, lastPoint, exactContour, exactEdges}
 use Rattle.float.specs.Ops.{_⊖_, _⊘_, f0, f1, f-1}
-use Rattle.float.specs.Whole.{ofWhole}
+use Rattle.whole.specs.Whole.{ofWhole}
 use Rattle.edge.specs.declared.Edge.{Edge}
-use Rattle.edge.specs.Edges.{slopedOf, edgeBetween, startRow, startingIn, reachingBelow, activeEdges}
+use Rattle.edge.specs.Edges.{slopedOf, edgeBetween, startRow}
+use Rattle.active_edges.specs.Active.{startingIn, reachingBelow, activeEdges}
 use Rattle.contour.specs.Contours.{coordinateOf, edgeOf, walkOf, lastOf, contourOf, edgesOf}
 use Rattle.bound.proofs.Entries.{pick, sumOver, plus-none, none-plus}
 

@@ -20,8 +20,8 @@ use Rattle.fraction.proofs.Near.{within-add, within-self, sumᶠ}
 use Rattle.fraction.proofs.Abs.{abs-nonneg, within-abs}
 use Rattle.rounding.specs.Value.{val}
 use Rattle.float.specs.Ops.{_⊕_, f0}
-use Rattle.row.proofs.Adding.{length-add}
-use Rattle.row.specs.Row.{Cells, addOf}
+use Rattle.accumulation.proofs.Adding.{length-add}
+use Rattle.accumulation.specs.Area.{Cells, addOf}
 
 pub record Entry : Type 0 where
   pub cell : ℕ

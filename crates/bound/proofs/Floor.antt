@@ -26,7 +26,7 @@ use Rattle.rounding.proofs.Ops.{sub-rounds}
 use Rattle.rounding.specs.Rounding.{Is}
 use Rattle.rounding.proofs.Exactly.{is-same, sub-exact}
 use Rattle.float.specs.Ops.{_⊖_}
-use Rattle.float.specs.Whole.{ofWhole}
+use Rattle.whole.specs.Whole.{ofWhole}
 use Rattle.bound.proofs.Numbers.{Num, Exact, whole-is, whole-held}
 
 -- ---- a float from 1/2 on

@@ -18,11 +18,11 @@ use Rattle.word_list.specs.Writer.{ContoursInLimit}
 use Rattle.winding.specs.Winding.{exactEdges, exactPart, meanWinding, crosses, groupShare}
 use Rattle.winding.proofs.Crosses.{no-part}
 use Rattle.float.specs.Ops.{_⊕_, f0}
-use Rattle.float.specs.Whole.{ofWhole}
-use Rattle.row.specs.Row.{Cells}
+use Rattle.whole.specs.Whole.{ofWhole}
+use Rattle.accumulation.specs.Area.{Cells}
 use Rattle.sweep.specs.Bytes.{bytesOf, coveredOf}
 use Rattle.edge.specs.declared.Edge.{Edge}
-use Rattle.edge.specs.Edges.{activeEdges, pieceOf, piecesOf}
+use Rattle.active_edges.specs.Active.{activeEdges, pieceOf, piecesOf}
 use Rattle.cells.specs.declared.Size.{Size}
 use Rattle.cells.specs.Cells.{SizeAllowed}
 use Rattle.coverage.specs.Drawing.{edgesRow, groupRow}

@@ -13,7 +13,7 @@ use Rattle.fraction.proofs.Order.{refl≤, add-mono, le-lt}
 use Rattle.fraction.proofs.Near.{near-weaken}
 use Rattle.rounding.specs.Value.{val}
 use Rattle.float.specs.Ops.{_⊕_, _⊖_, _⊗_, f1}
-use Rattle.float.specs.Whole.{columnOf, ofWhole}
+use Rattle.whole.specs.Whole.{columnOf, ofWhole}
 use Rattle.row.specs.Row.{ceilColumn}
 use Rattle.bound.proofs.Entries.{Entry, entry}
 use Rattle.bound.proofs.Model.{evenE, singleE, twoE, moreE, acrossE, insideE, halfway, perOf, entersOf, leavesOf, cornerOf, secondOf}

@@ -8,9 +8,10 @@ use lib.Dec.{leb, eqb}
 use lib.ListN.{length}
 use lib.Ieee.{Float, lt, le}
 use Rattle.float.specs.Ops.{_⊕_, _⊖_, _⊗_, _⊘_, f0, f½, f1}
-use Rattle.float.specs.Whole.{columnOf, ofWhole}
-use Rattle.row.proofs.Adding.{length-add}
-use Rattle.row.specs.Row.{Cells, addOf, evenlyOf, singleOf, betweenOf, acrossOf, ceilColumn, insideOf, clipOf, leftEnd, rightEnd, spanBy}
+use Rattle.whole.specs.Whole.{columnOf, ofWhole}
+use Rattle.accumulation.proofs.Adding.{length-add}
+use Rattle.accumulation.specs.Area.{Cells, addOf, evenlyOf, singleOf, betweenOf, acrossOf}
+use Rattle.row.specs.Row.{ceilColumn, insideOf, clipOf, leftEnd, rightEnd, spanBy}
 use Rattle.bound.proofs.Entries.{Entry, entry, added, added-append}
 
 unfoldable pub evenE : ℕ → ℕ → Float → List Entry

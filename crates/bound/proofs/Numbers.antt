@@ -22,8 +22,8 @@ use Rattle.rounding.specs.Value.{signed, signedᶠ, val}
 use Rattle.rounding.proofs.Compare.{lt-val, val-lt, le-val, eq-val, val-eq, not-lt-val, not-le-val}
 use Rattle.float.specs.Ops.{f0, f½, f1, f2}
 use Rattle.float.specs.Simple.{absOf, minOf, maxOf}
-use Rattle.float.specs.Whole.{columnOf, ofWhole}
-use Rattle.float.proofs.CastBelief.{ofWhole-exact, column-below}
+use Rattle.whole.specs.Whole.{columnOf, ofWhole}
+use Rattle.whole.proofs.CastBelief.{ofWhole-exact, column-below}
 use Rattle.row.specs.Row.{ceilColumn}
 use Rattle.sweep.specs.Bytes.{f255}
 

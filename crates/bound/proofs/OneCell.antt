@@ -17,7 +17,7 @@ use Rattle.rounding.specs.Value.{val}
 use Rattle.rounding.proofs.Round.{near-to}
 use Rattle.rounding.proofs.Analyse.{Known, Leaf, E, leaf, op, plus, minus, times, auto, known, given, constant, analyse}
 use Rattle.float.specs.Ops.{_⊕_, _⊖_, _⊗_, f½, f1}
-use Rattle.float.specs.Whole.{ofWhole}
+use Rattle.whole.specs.Whole.{ofWhole}
 use Rattle.winding.proofs.MeanOf.{G}
 use Rattle.winding.proofs.Cells.{G-right, G-left, G-inside}
 use Rattle.bound.proofs.Entries.{pick, prefix, total, Rising, pick-in, pick-out, rising-from, rising-once}

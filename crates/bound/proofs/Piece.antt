@@ -30,10 +30,11 @@ use Rattle.winding.proofs.Part.{top, bottom, share, part-down-is, part-up-is, h
 use Rattle.winding.proofs.Crosses.{crosses-yes, crosses-down, crosses-up, of-less}
 use Rattle.float.specs.Ops.{_⊖_, _⊗_, f1, f-1}
 use Rattle.float.specs.Simple.{minOf, maxOf}
-use Rattle.float.specs.Whole.{ofWhole}
-use Rattle.row.specs.Row.{Cells}
+use Rattle.whole.specs.Whole.{ofWhole}
+use Rattle.accumulation.specs.Area.{Cells}
 use Rattle.edge.specs.declared.Edge.{Edge}
-use Rattle.edge.specs.Edges.{slopedOf, edgeBetween, atOf, pieceOf, piecesOf}
+use Rattle.edge.specs.Edges.{slopedOf, edgeBetween, atOf}
+use Rattle.active_edges.specs.Active.{pieceOf, piecesOf}
 use Rattle.contour.specs.Contours.{coordinateOf}
 use Rattle.bound.specs.Counted.{leftOf, reaches}
 use Rattle.bound.proofs.Entries.{Entry, Fine, From, added, tally, count, worth, size, here, before, anywhere, prefix, total}

@@ -21,7 +21,7 @@ use Rattle.rounding.proofs.Round.{rounds-same, near-to}
 use Rattle.rounding.proofs.Ops.{sub-rounds}
 use Rattle.rounding.proofs.Analyse.{Known}
 use Rattle.float.specs.Ops.{_⊖_, _⊗_, _⊘_, f0, f1}
-use Rattle.float.specs.Whole.{ofWhole}
+use Rattle.whole.specs.Whole.{ofWhole}
 use Rattle.winding.proofs.MeanOf.{G}
 use Rattle.winding.proofs.Cells.{G-right, G-left, G-cut-left, G-cut-right, G-range, G-sym, G-cong}
 use Rattle.bound.proofs.Entries.{Entry, entry, count, here, prefix, total, plus-none, pick-in, rising-once}

@@ -20,7 +20,7 @@ use Rattle.rounding.proofs.Round.{near-to}
 use Rattle.rounding.proofs.Round as Round
 use Rattle.rounding.proofs.Ops.{add-rounds}
 use Rattle.float.specs.Ops.{_⊕_, f0}
-use Rattle.row.specs.Row.{Cells}
+use Rattle.accumulation.specs.Area.{Cells}
 use Rattle.sweep.specs.Bytes.{bytesOf, coveredOf}
 use Rattle.bound.proofs.Adds.{entryPart, cellPart, sumPart}
 use Rattle.bound.proofs.Entries.{Entry, Fine, tally, count, worth, size, here, before, none-plus, tally-nonneg, tally-wider, swap, area}

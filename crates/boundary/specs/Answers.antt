@@ -9,8 +9,8 @@ use Rattle.fault.specs.declared.Fault.{Fault}
 use Rattle.fault.specs.Number.{numberOf}
 use Rattle.shape.specs.declared.BoxAnswer.{BoxAnswer}
 use Rattle.shape.specs.declared.BoxAnswer.the-variants as box
-use Rattle.clip_coverage.specs.declared.CoverageAnswer.{CoverageAnswer}
-use Rattle.clip_coverage.specs.declared.CoverageAnswer.the-variants as covered
+use Rattle.covering.specs.declared.CoverageAnswer.{CoverageAnswer}
+use Rattle.covering.specs.declared.CoverageAnswer.the-variants as covered
 use Rattle.shape.specs.declared.BoundsAnswer.{BoundsAnswer}
 use Rattle.shape.specs.declared.BoundsAnswer.the-variants as bounds
 use Rattle.clip_coverage.specs.declared.DistanceAnswer.{DistanceAnswer}

@@ -7,7 +7,7 @@ use Rattle.fault.specs.Number.{numberOf, CauseNumbers}
 use Rattle.mask.specs.declared.Outcome.the-variants as drawn
 use Rattle.mask.specs.Calls.{outcomeNumber}
 use Rattle.shape.specs.declared.BoxAnswer.the-variants as box
-use Rattle.clip_coverage.specs.declared.CoverageAnswer.the-variants as covered
+use Rattle.covering.specs.declared.CoverageAnswer.the-variants as covered
 use Rattle.shape.specs.declared.BoundsAnswer.the-variants as bounds
 use Rattle.clip_coverage.specs.declared.DistanceAnswer.the-variants as distance
 use Rattle.shape.specs.declared.TestAnswer.the-variants as test

@@ -1,8 +1,8 @@
 // What crosses the C boundary: coverages as lent floats (crate boxes has boxes), and answers as numbers.
 // No function here is a call of the kiosk's: crate beamnettle exports those.
 use clip_coverage::ClipCoverage;
-use clip_coverage::CoverageAnswer;
 use clip_coverage::DistanceAnswer;
+use covering::CoverageAnswer;
 use mask::Outcome;
 use shape::BoundsAnswer;
 use shape::BoxAnswer;

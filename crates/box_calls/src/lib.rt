@@ -21,30 +21,36 @@ enum BoxCall {
     Unknown,
 }
 
+// The calls on one box, or on a coverage.
 fn call(line: &[u8; MOST_LINE], name: Field) -> BoxCall {
     if fields::is(line, name, b"transformed") {
         return BoxCall::Transformed;
     }
-    if fields::is(line, name, b"intersection") {
-        return BoxCall::Intersection;
-    }
-    if fields::is(line, name, b"rect_intersection") {
-        return BoxCall::RectIntersection;
-    }
     if fields::is(line, name, b"coverage") {
         return BoxCall::Coverage;
-    }
-    if fields::is(line, name, b"parallel") {
-        return BoxCall::Parallel;
-    }
-    if fields::is(line, name, b"contains") {
-        return BoxCall::Contains;
     }
     if fields::is(line, name, b"bounds") {
         return BoxCall::Bounds;
     }
     if fields::is(line, name, b"distance") {
         return BoxCall::Distance;
+    }
+    call_of_two(line, name)
+}
+
+// The calls on two boxes, or on a coverage and a box.
+fn call_of_two(line: &[u8; MOST_LINE], name: Field) -> BoxCall {
+    if fields::is(line, name, b"intersection") {
+        return BoxCall::Intersection;
+    }
+    if fields::is(line, name, b"rect_intersection") {
+        return BoxCall::RectIntersection;
+    }
+    if fields::is(line, name, b"parallel") {
+        return BoxCall::Parallel;
+    }
+    if fields::is(line, name, b"contains") {
+        return BoxCall::Contains;
     }
     BoxCall::Unknown
 }
@@ -80,6 +86,36 @@ fn coverage_of(f: &[f32; MOST_FLOATS]) -> ClipCoverage {
     }
 }
 
+// ---- each call, from its floats
+
+fn transformed(f: &[f32; MOST_FLOATS]) {
+    answers::boxed(boxes::box_at(f, 0).transformed(boxes::frame_at(f, 10)));
+}
+
+fn intersection(f: &[f32; MOST_FLOATS]) {
+    answers::boxed(overlap::intersection(boxes::box_at(f, 0), boxes::box_at(f, 10), f[20]));
+}
+
+fn rect_intersection(f: &[f32; MOST_FLOATS]) {
+    answers::boxed(sides::rect_intersection(boxes::box_at(f, 0), boxes::box_at(f, 10)));
+}
+
+fn coverage(f: &[f32; MOST_FLOATS]) {
+    answers::coverage(covering::coverage(boxes::box_at(f, 0), f[10]));
+}
+
+fn parallel(f: &[f32; MOST_FLOATS]) {
+    answers::test(beside::parallel(boxes::box_at(f, 0), boxes::box_at(f, 10)));
+}
+
+fn contains(f: &[f32; MOST_FLOATS]) {
+    answers::test(coverage_of(f).contains(boxes::box_at(f, 11)));
+}
+
+fn bounds(f: &[f32; MOST_FLOATS]) {
+    answers::bounds(boxes::box_at(f, 0).bounds());
+}
+
 fn distance(f: &[f32; MOST_FLOATS]) {
     let p = Position { x: f[11], y: f[12] };
     answers::distance(coverage_of(f).distance(p));
@@ -88,28 +124,15 @@ fn distance(f: &[f32; MOST_FLOATS]) {
 // Answers a call from its floats.
 fn answer_floats(call: BoxCall, f: &[f32; MOST_FLOATS]) {
     match call {
-        BoxCall::Transformed => answers::boxed(boxes::box_at(f, 0).transformed(boxes::frame_at(
-            f,
-            10,
-        ))),
-        BoxCall::Intersection => answers::boxed(overlap::intersection(
-            boxes::box_at(f, 0),
-            boxes::box_at(f, 10),
-            f[20],
-        )),
-        BoxCall::RectIntersection => answers::boxed(beside::rect_intersection(
-            boxes::box_at(f, 0),
-            boxes::box_at(f, 10),
-        )),
-        BoxCall::Coverage => answers::coverage(clip_coverage::coverage(boxes::box_at(f, 0), f[10])),
-        BoxCall::Parallel => answers::test(beside::parallel(
-            boxes::box_at(f, 0),
-            boxes::box_at(f, 10),
-        )),
-        BoxCall::Contains => answers::test(coverage_of(f).contains(boxes::box_at(f, 11))),
-        BoxCall::Bounds => answers::bounds(boxes::box_at(f, 0).bounds()),
+        BoxCall::Transformed => transformed(f),
+        BoxCall::Intersection => intersection(f),
+        BoxCall::RectIntersection => rect_intersection(f),
+        BoxCall::Coverage => coverage(f),
+        BoxCall::Parallel => parallel(f),
+        BoxCall::Contains => contains(f),
+        BoxCall::Bounds => bounds(f),
         BoxCall::Distance => distance(f),
-        BoxCall::Unknown => answers::write(b""),
+        BoxCall::Unknown => {}
     }
 }
 
@@ -154,9 +177,6 @@ fn touch(line: &[u8; MOST_LINE], at: usize) -> Problem {
 
 // Answers the call that has a name, with the fields behind it.
 pub fn answer(line: &[u8; MOST_LINE], name: Field) -> Problem {
-    if fields::is(line, name, b"fit") {
-        return outline_calls::fit(line, name.end);
-    }
     if fields::is(line, name, b"touch") {
         return touch(line, name.end);
     }

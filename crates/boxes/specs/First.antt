@@ -4,7 +4,7 @@ use mathlib.Core.Bool.{Bool, false, cond}
 use mathlib.Core.List.{List, [], _∷_}
 use Rattle.fault.specs.Check.{answerUnless}
 use Rattle.shape.specs.declared.RoundedBox.{RoundedBox}
-use Rattle.clip_coverage.specs.Distance.{touchesOf}
+use Rattle.covering.specs.Touches.{touchesOf}
 use Rattle.boxes.specs.declared.Ask.{Ask}
 use Rattle.boxes.specs.declared.Ask.the-variants as ask
 use Rattle.boxes.specs.declared.Found.{Found}

@@ -40,11 +40,7 @@ impl Ask {
         ensures { λ r. ⌜ r ≡ asksOf self b ⌝ }
     {
         match self {
-            Ask::Touch(fringe, x, y) => clip_coverage::touches_unchecked(
-                b,
-                fringe,
-                Position { x, y },
-            ),
+            Ask::Touch(fringe, x, y) => covering::touches_unchecked(b, fringe, Position { x, y }),
             Ask::Nothing => false,
         }
     }

@@ -18,7 +18,7 @@ pub fn left(length: usize, problem: Problem) -> AfterCall {
 
 // The length that a call gives a buffer, with its answer.
 fn set(length: usize) -> AfterCall {
-    answers::write(b"done\n");
+    writing::write(b"done\n");
     left(length, Problem::Nothing)
 }
 
@@ -133,22 +133,22 @@ pub fn show(
         return left(length, Problem::FieldTooMany);
     };
     if length == 0 {
-        answers::write(b"-");
+        writing::write(b"-");
     }
     show_bytes(buffer, length);
-    answers::write(b"\n");
+    writing::write(b"\n");
     left(length, Problem::Nothing)
 }
 
 // A cell's shade, from none to all.
 fn shade(byte: u8) {
     match byte {
-        0..=25 => answers::write(b" "),
-        26..=76 => answers::write(b"."),
-        77..=127 => answers::write(b":"),
-        128..=178 => answers::write(b"+"),
-        179..=229 => answers::write(b"#"),
-        230..=255 => answers::write(b"@"),
+        0..=25 => writing::write(b" "),
+        26..=76 => writing::write(b"."),
+        77..=127 => writing::write(b":"),
+        128..=178 => writing::write(b"+"),
+        179..=229 => writing::write(b"#"),
+        230..=255 => writing::write(b"@"),
     }
 }
 
@@ -168,7 +168,7 @@ fn picture_cells(buffer: &[u8; MOST_BYTES], length: usize, width: usize, height:
         shade(buffer[i]);
         i += 1;
         if i % width == 0 {
-            answers::write(b"\n");
+            writing::write(b"\n");
         }
     }
 }

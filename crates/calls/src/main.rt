@@ -1,6 +1,4 @@
 // Reads a list of calls, one a line, and writes an answer a line: README.md, 'A list of calls'.
-mod input;
-
 use buffers::MOST_BYTES;
 use fields::Field;
 use fields::MOST_LINE;
@@ -42,7 +40,7 @@ fn on_buffer(
 
 // Says what is wrong, if anything is, and keeps the buffers' lengths.
 fn kept(s: State, run: usize, next: usize, problem: Problem) -> State {
-    answers::tell(s.line, problem);
+    writing::tell(s.line, problem);
     State {
         at: s.at,
         have: s.have,
@@ -51,6 +49,14 @@ fn kept(s: State, run: usize, next: usize, problem: Problem) -> State {
         next,
         open: s.open,
     }
+}
+
+// Answers a call on an outline or on boxes.
+fn on_boxes(line: &[u8; MOST_LINE], name: Field) -> Problem {
+    if fields::is(line, name, b"fit") {
+        return outline_calls::fit(line, name.end);
+    }
+    box_calls::answer(line, name)
 }
 
 // Answers a line, if it holds a call.
@@ -74,7 +80,7 @@ fn answer(
         let problem = mask_calls::lay(line, name.end, run, s.run, next, s.next);
         return kept(s, s.run, s.next, problem);
     }
-    kept(s, s.run, s.next, box_calls::answer(line, name))
+    kept(s, s.run, s.next, on_boxes(line, name))
 }
 
 fn one_more(n: u64) -> u64 {

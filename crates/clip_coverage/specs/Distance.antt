@@ -1,6 +1,6 @@
 -- The distance from a box's edge, and what lies inside it, as shape.rs computes them. `⊕ ⊖ ⊗ ⊘` are binary32's
 -- operations, and each rounds once. Definitions only.
-use mathlib.Core.Bool.{Bool, false, cond, _&&_}
+use mathlib.Core.Bool.{Bool, cond, _&&_}
 use lib.Ieee.{Float, binary32, lt, le}
 use Rattle.float.specs.Ops.{_⊕_, _⊖_, _⊗_, _⊘_, f0, f1, f2}
 use Rattle.float.specs.Simple.{absOf, maxOf, signumOf}
@@ -10,10 +10,7 @@ use Rattle.shape.specs.declared.RoundedBox.{RoundedBox}
 use Rattle.shape.specs.Outline.{outlinePointOf, allBelow}
 use Rattle.clip_coverage.specs.declared.ClipCoverage.{ClipCoverage}
 use Rattle.clip_coverage.specs.declared.Located.{Located}
-use Rattle.clip_coverage.specs.declared.MaybeCoverage.{MaybeCoverage}
-use Rattle.clip_coverage.specs.declared.MaybeCoverage.the-variants as coverage
-use Rattle.clip_coverage.specs.Limits.{containmentSlack, touchAllowance}
-use Rattle.clip_coverage.specs.Coverage.{coverageOf}
+use Rattle.clip_coverage.specs.Limits.{containmentSlack}
 
 -- ---- ClipCoverage::locate
 
@@ -76,12 +73,3 @@ holdsPointOf k p = le (distanceOf k p) containmentSlack
 -- ClipCoverage::contains
 abbrev pub containsOf : ClipCoverage → RoundedBox → Bool
 containsOf k b = allBelow (λ i. holdsPointOf k (outlinePointOf b i)) 36
-
--- ---- Document 01, 'Touch', at one box: 'whose coverage exists and whose distance at the point is at most 0'
-
-abbrev pub touchesBy : MaybeCoverage → Position → Bool
-touchesBy (coverage.Coverage k) p = le (distanceOf k p) touchAllowance
-touchesBy coverage.NoCoverage p = false
-
-unfoldable pub touchesOf : RoundedBox → Float → Position → Bool
-touchesOf b fringe p = touchesBy (coverageOf b fringe) p

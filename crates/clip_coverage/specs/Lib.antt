@@ -1,6 +1,4 @@
--- Limits: the fixed numbers. Coverage: a box as a draw takes it. Distance: the distance from its edge, and what lies
--- inside. Calls: the public calls.
+-- Limits: the fixed number. Distance: the distance from a box's edge, and what lies inside. Calls: the public calls.
 pub mod Limits
-pub mod Coverage
 pub mod Distance
 pub mod Calls

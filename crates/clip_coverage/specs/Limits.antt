@@ -1,22 +1,6 @@
--- The fixed numbers of shape.rs and of document 01, each under its own name. Definitions only.
+-- The fixed number of shape.rs under its own name. Definitions only.
 use lib.Ieee.{Float, binary32, ofBits}
-
--- MIN_AXIS_SPREAD, 1e-4
-abbrev pub minAxisSpread : Float
-minAxisSpread = ofBits binary32 0x38d1_b717
-
--- MIN_HALF_EXTENT, 0.5
-abbrev pub minHalfExtent : Float
-minHalfExtent = ofBits binary32 0x3f00_0000
-
--- SQUARE_CORNER_BELOW, 0.5
-abbrev pub squareCornerBelow : Float
-squareCornerBelow = ofBits binary32 0x3f00_0000
 
 -- CONTAINMENT_SLACK, 0.5
 abbrev pub containmentSlack : Float
 containmentSlack = ofBits binary32 0x3f00_0000
-
--- Document 01, 'Touch': 'at most 0'
-abbrev pub touchAllowance : Float
-touchAllowance = ofBits binary32 0

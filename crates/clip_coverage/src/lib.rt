@@ -1,18 +1,15 @@
-// A box as a draw takes it: `RoundedBox::coverage` and `ClipCoverage` of femtovg's clip/shape.rs, and
-// document 01's touch of one box.
+// A box as a draw takes it: `ClipCoverage` of femtovg's clip/shape.rs, its distance and what it
+// contains. Crate covering makes one out of a box.
 //
 // A call refuses as document 01 says and else answers what the Rust does. What it rests on ends in
 // `_unchecked` and takes any floats. Each contract gives the answer outright, by a definition of specs/.
 ghost use mathlib.Core.Path.{_≡_};
-ghost use Prim.Native.Nat.{_<_};
-ghost use Rattle.clip_coverage.specs.Coverage.{invertibleOf, uncoveredOf, perFringeOf, thinOf, tightOf, keptRadiiOf, coverageOf};
 ghost use Rattle.clip_coverage.specs.Distance.{framedOf, sideOf, cornerOf, roundOf, offCornerOf, leanOf, cornerDistanceOf};
-ghost use Rattle.clip_coverage.specs.Distance.{edgeDistanceOf, locateOf, distanceOf, holdsPointOf, containsOf, touchesOf};
-ghost use Rattle.clip_coverage.specs.Calls.{coverageAnswer, coverageCheckOf, coverageCall, distanceCall, containsCall, touchesCall};
+ghost use Rattle.clip_coverage.specs.Distance.{edgeDistanceOf, locateOf, distanceOf, holdsPointOf, containsOf};
+ghost use Rattle.clip_coverage.specs.Calls.{distanceCall, containsCall};
 use fault::Check;
 use fault::Fault;
 use geometry::Position;
-use geometry::Transform2D;
 use shape::RoundedBox;
 use shape::TestAnswer;
 
@@ -37,12 +34,6 @@ pub struct ClipCoverage {
     pub strays: f32,
 }
 
-// The Rust's Option<ClipCoverage>.
-pub enum MaybeCoverage {
-    Coverage(ClipCoverage),
-    NoCoverage,
-}
-
 // The Rust's (f32, bool) of `locate`.
 pub struct Located {
     pub distance: f32,
@@ -50,167 +41,14 @@ pub struct Located {
     pub round: bool,
 }
 
-// ---- answers
-
-pub enum CoverageAnswer {
-    Coverage(ClipCoverage),
-    NoCoverage,
-    Refused(Fault),
-}
-
 pub enum DistanceAnswer {
     Distance(f32),
     Refused(Fault),
 }
 
-impl MaybeCoverage {
-    fn answer(self) -> CoverageAnswer
-        ensures { λ r. ⌜ r ≡ coverageAnswer self ⌝ }
-    {
-        let MaybeCoverage::Coverage(k) = self else {
-            return CoverageAnswer::NoCoverage;
-        };
-        CoverageAnswer::Coverage(k)
-    }
-}
-
-// ---- coverage
-
-fn invertible(t: Transform2D) -> bool
-    ensures { λ r. ⌜ r ≡ invertibleOf t ⌝ }
-{
-    let determinant = t.a * t.d - t.c * t.b;
-    let spans = (t.a * t.a + t.b * t.b) * (t.c * t.c + t.d * t.d);
-    determinant * determinant > ClipCoverage::MIN_AXIS_SPREAD * spans && float::is_finite(spans)
-}
-
-// Whether a frame has no coverage, whatever the box: it all but collapses, or there is no fringe.
-fn uncovered(t: Transform2D, fringe: f32) -> bool
-    ensures { λ r. ⌜ r ≡ uncoveredOf t fringe ⌝ }
-{
-    !invertible(t) || fringe <= 0.0
-}
-
-// One fringe width in a box's own coordinates, across each pair of its sides, from the inverse of its
-// frame.
-pub fn per_fringe(inverse: Transform2D, fringe: f32) -> Position
-    ensures { λ r. ⌜ r ≡ perFringeOf inverse fringe ⌝ }
-{
-    Position {
-        x: roots::hypot(inverse.a, inverse.c) * fringe,
-        y: roots::hypot(inverse.b, inverse.d) * fringe,
-    }
-}
-
-// Whether a box is thinner than a pixel.
-fn thin(ex: f32, ey: f32) -> bool
-    ensures { λ r. ⌜ r ≡ thinOf ex ey ⌝ }
-{
-    ex < ClipCoverage::MIN_HALF_EXTENT || ey < ClipCoverage::MIN_HALF_EXTENT
-}
-
-// Whether a corner is too tight to tell from square.
-fn tight(rx: f32, ry: f32) -> bool
-    ensures { λ r. ⌜ r ≡ tightOf rx ry ⌝ }
-{
-    rx < ClipCoverage::SQUARE_CORNER_BELOW || ry < ClipCoverage::SQUARE_CORNER_BELOW
-}
-
-fn kept_radii(rx: f32, ry: f32) -> Position
-    ensures { λ r. ⌜ r ≡ keptRadiiOf rx ry ⌝ }
-{
-    if tight(rx, ry) {
-        return Position { x: 0.0, y: 0.0 };
-    }
-    Position { x: rx, y: ry }
-}
-
-pub fn coverage_unchecked(b: RoundedBox, fringe: f32) -> MaybeCoverage
-    ensures { λ r. ⌜ r ≡ coverageOf b fringe ⌝ }
-{
-    let frame = b.frame;
-    if uncovered(frame, fringe) {
-        return MaybeCoverage::NoCoverage;
-    }
-    let i = frame.inverse();
-    let per = per_fringe(i, fringe);
-    let ex = b.ex / per.x;
-    let ey = b.ey / per.y;
-    if thin(ex, ey) {
-        return MaybeCoverage::NoCoverage;
-    }
-    let radii = kept_radii(b.rx / per.x, b.ry / per.y);
-    MaybeCoverage::Coverage(ClipCoverage {
-        la: i.a / per.x,
-        lb: i.c / per.x,
-        lc: i.b / per.y,
-        ld: i.d / per.y,
-        ox: i.x / per.x,
-        oy: i.y / per.y,
-        ex,
-        ey,
-        rx: radii.x,
-        ry: radii.y,
-        strays: 0.0,
-    })
-}
-
-fn coverage_check(b: RoundedBox, fringe: f32) -> Check
-    ensures { λ r. ⌜ r ≡ coverageCheckOf b fringe ⌝ }
-{
-    b.check().and_then(shape::fringe_check(fringe))
-}
-
-// The box for a draw whose positions are in the space the frame maps to, or none where the frame
-// collapses that space or all but does, or the box is thinner than a pixel there.
-// Ruled out: one radius squared off and the other kept; a coverage at a half extent of 0.4375
-// fringe widths.
-pub fn coverage(b: RoundedBox, fringe: f32) -> CoverageAnswer
-    ensures { λ r. ⌜ r ≡ coverageCall b fringe ⌝ }
-{
-    if let Check::Refused(fault) = coverage_check(b, fringe) {
-        return CoverageAnswer::Refused(fault);
-    }
-    coverage_unchecked(b, fringe).answer()
-}
-
-// ---- touch
-
-pub fn touches_unchecked(b: RoundedBox, fringe: f32, p: Position) -> bool
-    ensures { λ r. ⌜ r ≡ touchesOf b fringe p ⌝ }
-{
-    let MaybeCoverage::Coverage(k) = coverage_unchecked(b, fringe) else {
-        return false;
-    };
-    k.distance_unchecked(p) <= ClipCoverage::TOUCH_ALLOWANCE
-}
-
-// Whether the box has a coverage and the point lies in it or on its edge.
-// Ruled out: false at a point on the edge; true where there is no coverage.
-pub fn touches(b: RoundedBox, fringe: f32, p: Position) -> TestAnswer
-    ensures { λ r. ⌜ r ≡ touchesCall b fringe p ⌝ }
-{
-    if let Check::Refused(fault) = coverage_check(b, fringe).and_then(shape::point_check(p)) {
-        return TestAnswer::Refused(fault);
-    }
-    TestAnswer::Done(touches_unchecked(b, fringe, p))
-}
-
 impl ClipCoverage {
-    // How close to parallel a frame's axes may come, as the squared sine of the angle between them.
-    const MIN_AXIS_SPREAD: f32 = 1e-4;
-
-    // The half extent, in fringe widths, under which a box has no coverage.
-    const MIN_HALF_EXTENT: f32 = 0.5;
-
-    // The corner radius, in fringe widths, under which a corner is taken as square.
-    const SQUARE_CORNER_BELOW: f32 = 0.5;
-
     // How far, in fringe widths, a box may stray out of another and still lie inside it.
     pub const CONTAINMENT_SLACK: f32 = 0.5;
-
-    // Document 01, 'Touch': a box is hit where the distance at the point is at most this.
-    const TOUCH_ALLOWANCE: f32 = 0.0;
 
     // ---- distance
 
@@ -301,7 +139,8 @@ impl ClipCoverage {
     pub fn distance_unchecked(self, p: Position) -> f32
         ensures { λ r. ⌜ r ≡ distanceOf self p ⌝ }
     {
-        self.locate(p).distance
+        // Float by float: a point that is handed on whole is packed into one register and taken apart.
+        self.locate(Position { x: p.x, y: p.y }).distance
     }
 
     // Signed distance from the box's edge at a device position, in fringe widths and negative inside.

@@ -1,6 +1,6 @@
 // The contours of a group, read from a word list that was checked: their edges, stored in lent floats.
-use words::Counted;
-use words::Word;
+use word_reader::Counted;
+use word_reader::Word;
 ghost use mathlib.Core.Path.{_≡_};
 ghost use mathlib.Core.Bool.{false};
 ghost use Prim.Native.Nat.{_+_, _*_, _≤_, _<_};
@@ -8,7 +8,7 @@ ghost use lib.IntN.{ℤ, pos};
 ghost use lib.ListN.{length, getD, drop};
 ghost use Rattle.word_list.specs.Words.{beyond, readPoints, readContours, pointsOf};
 ghost use Rattle.words.specs.Scan.{Fine, pointsFrom, contoursFrom, endOf};
-ghost use Rattle.words.specs.declared.Word.the-variants.{Value};
+ghost use Rattle.word_reader.specs.declared.Word.the-variants.{Value};
 ghost use Rattle.edge.specs.Floats.{Pushed};
 ghost use Rattle.contour.specs.Contours.{coordinateOf, contourOf, edgesOf};
 
@@ -39,7 +39,7 @@ impl Point {
         requires { ⌜ (beyond (getD (now words) at (pos 0)) ≡ false) × (beyond (getD (now words) (at + 1) (pos 0)) ≡ false) ⌝ }
         ensures { λ r. ⌜ (r .x ≡ coordinateOf (getD (now (words .entry)) at (pos 0))) × (r .y ≡ coordinateOf (getD (now (words .entry)) (at + 1) (pos 0))) ⌝ }
     {
-        let pair = words::pair_at(words, at);
+        let pair = word_reader::pair_at(words, at);
         let x = pair.first;
         let y = pair.second;
         Point {
@@ -110,7 +110,7 @@ pub fn contours(
     let mut count = 0;
     let mut remaining = n;
     while 0 < remaining {
-        let Counted::Count(points) = words::count_at(words, at) else {
+        let Counted::Count(points) = word_reader::count_at(words, at) else {
             return Progress { at, count };
         };
         count = contour(words, at + 1, points, floats, edges, count, height);

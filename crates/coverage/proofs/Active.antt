@@ -11,9 +11,10 @@ use lib.Dec.{eqb, leb}
 use lib.ListN.{length, length-append}
 use lib.Ieee.{Float, lt}
 use borrow.Author.Tests.{eq-eqb, ne-eqb, le-leb, lt-leb}
-use Rattle.float.specs.Whole.{ofWhole}
+use Rattle.whole.specs.Whole.{ofWhole}
 use Rattle.edge.specs.declared.Edge.{Edge}
-use Rattle.edge.specs.Edges.{startRow, startingIn, reachingBelow, activeEdges}
+use Rattle.edge.specs.Edges.{startRow}
+use Rattle.active_edges.specs.Active.{startingIn, reachingBelow, activeEdges}
 
 -- the edges that were kept from the row above
 unfoldable pub keptOf : List Edge → ℕ → List Edge

@@ -10,15 +10,16 @@ use lib.Seq.{getD-drop, getD-take, getD-set-same, getD-set-other, take-set-le, e
 use lib.Ieee.{Float, nan}
 use borrow.Rule.Slice.PartMut.{midOf, putMid, set-mid-at}
 use Rattle.float.specs.Ops.{f0}
-use Rattle.float.specs.Whole.{ofWhole}
+use Rattle.whole.specs.Whole.{ofWhole}
 use Rattle.cells.proofs.Rows.{ChangedTo, changed-start, changed-more, changed-all}
-use Rattle.row.specs.Marks.{markWords}
+use Rattle.accumulation.specs.Marks.{markWords}
 use Rattle.sweep.specs.Bytes.{addBytes}
 use Rattle.edge.specs.declared.Edge.{Edge}
 use Rattle.edge.specs.declared.Layout.{Layout}
-use Rattle.edge.specs.Edges.{reachingBelow, activeEdges}
+use Rattle.active_edges.specs.Active.{reachingBelow, activeEdges}
 use Rattle.edge.specs.Floats.{edgesAt}
-use Rattle.edge.specs.Table.{edgesIn, activeIn, Placed, firstIn, Joining, Joined}
+use Rattle.edge.specs.Table.{edgesIn, Placed, firstIn}
+use Rattle.active_edges.specs.Floats.{activeIn, Joining, Joined}
 use Rattle.edge.proofs.Floats.{Same, same-edges, edges-length, take-same}
 use Rattle.edge.proofs.Linking.{from-same, next-same}
 use Rattle.coverage.specs.Drawing.{edgesRow}

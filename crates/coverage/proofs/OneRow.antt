@@ -9,14 +9,14 @@ use lib.ListN.{length, getD, take, drop, replicate, length-replicate, getD-repli
 use lib.Seq.{take-at, length-take-le, length-front}
 use lib.Ieee.{Float, nan}
 use Rattle.float.specs.Ops.{f0}
-use Rattle.float.specs.Whole.{ofWhole}
-use Rattle.row.specs.Marks.{markWords, Ready}
+use Rattle.whole.specs.Whole.{ofWhole}
+use Rattle.accumulation.specs.Marks.{markWords, Ready}
 use Rattle.sweep.specs.Bytes.{bytesOf, addBytes}
 use Rattle.sweep.proofs.Runs.{no-area}
 use Rattle.edge.specs.declared.Layout.{Layout}
-use Rattle.edge.specs.Edges.{reachingBelow, piecesOf}
+use Rattle.active_edges.specs.Active.{reachingBelow, piecesOf}
 use Rattle.edge.specs.Floats.{edgesAt}
-use Rattle.edge.specs.Table.{activeIn, ActiveRow, Pieces}
+use Rattle.active_edges.specs.Floats.{activeIn, ActiveRow, Pieces}
 use Rattle.edge.proofs.Floats.{same-edges, front-other}
 use Rattle.coverage.specs.Drawing.{edgesRow}
 use Rattle.coverage.specs.Resolving.{sizeOf, Drawable, Drawn}

@@ -13,11 +13,12 @@ use Rattle.cells.specs.declared.Size.{Size}
 use Rattle.cells.specs.Rows.{rowsChanged}
 use Rattle.cells.proofs.Cleared.{take-alike}
 use Rattle.cells.proofs.Rows.{changes-alike}
-use Rattle.row.specs.Marks.{markWords}
+use Rattle.accumulation.specs.Marks.{markWords}
 use Rattle.sweep.specs.Bytes.{addBytes}
 use Rattle.edge.specs.declared.Edge.{Edge}
 use Rattle.edge.specs.declared.Layout.{Layout}
-use Rattle.edge.specs.Edges.{startRow, activeEdges}
+use Rattle.edge.specs.Edges.{startRow}
+use Rattle.active_edges.specs.Active.{activeEdges}
 use Rattle.edge.specs.Floats.{edgesAt}
 use Rattle.edge.specs.Table.{nth, edgesIn, Placed, firstIn, InTable, NextsChanged}
 use Rattle.edge.proofs.Floats.{same-edges, take-same}

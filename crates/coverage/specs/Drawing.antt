@@ -5,13 +5,13 @@ use mathlib.Core.Bool.{Bool}
 use mathlib.Core.List.{List, [], _∷_}
 use lib.ListN.{replicate}
 use Rattle.float.specs.Ops.{f0}
-use Rattle.float.specs.Whole.{ofWhole}
+use Rattle.whole.specs.Whole.{ofWhole}
 use Rattle.word_list.specs.Words.{Group, evenOdd}
 use Rattle.cells.specs.declared.Size.{Size}
 use Rattle.cells.specs.Rows.{rowsFrom}
 use Rattle.sweep.specs.Bytes.{bytesOf, addBytes}
 use Rattle.edge.specs.declared.Edge.{Edge}
-use Rattle.edge.specs.Edges.{activeEdges, piecesOf}
+use Rattle.active_edges.specs.Active.{activeEdges, piecesOf}
 use Rattle.contour.specs.Contours.{edgesOf}
 
 -- the bytes of active edges in a row: their pieces on a row of zeros, summed and folded by a rule

@@ -6,18 +6,19 @@ use Prim.Native.Nat.{ℕ, suc, _+_, _*_, _≤_, _<_}
 use lib.ListN.{length, getD, take, replicate}
 use lib.Ieee.{Float, nan}
 use Rattle.float.specs.Ops.{f0}
-use Rattle.float.specs.Whole.{ofWhole}
+use Rattle.whole.specs.Whole.{ofWhole}
 use Rattle.word_list.specs.Words.{Group, evenOdd}
 use Rattle.cells.specs.declared.Size.{Size}
 use Rattle.cells.specs.Cells.{cellsOf, SizeAllowed}
 use Rattle.cells.specs.Rows.{rowsChanged}
-use Rattle.row.specs.Marks.{markWords}
+use Rattle.accumulation.specs.Marks.{markWords}
 use Rattle.sweep.specs.Bytes.{addBytes}
 use Rattle.edge.specs.declared.Edge.{Edge}
 use Rattle.edge.specs.declared.Layout.{Layout}
-use Rattle.edge.specs.Edges.{activeEdges, reachingBelow}
+use Rattle.active_edges.specs.Active.{activeEdges, reachingBelow}
 use Rattle.edge.specs.Floats.{edgesAt}
-use Rattle.edge.specs.Table.{activeIn, Placed, firstIn, Linked}
+use Rattle.edge.specs.Table.{Placed, firstIn, Linked}
+use Rattle.active_edges.specs.Floats.{activeIn}
 use Rattle.contour.specs.Contours.{edgesOf}
 use Rattle.coverage.specs.Drawing.{edgesRow}
 use Rattle.coverage.specs.Scratch.{countersNeeded}

@@ -7,7 +7,7 @@ use lib.Ieee.{Float}
 use Rattle.float.specs.Ops.{f0}
 use Rattle.cells.specs.declared.Size.{Size}
 use Rattle.cells.specs.Cells.{cellsOf, SizeAllowed}
-use Rattle.row.specs.Marks.{markWords}
+use Rattle.accumulation.specs.Marks.{markWords}
 
 -- 'Scratch is 32-bit floats, at least width + 15 × points of the list,
 abbrev pub floatsNeeded : Size → ℕ → ℕ

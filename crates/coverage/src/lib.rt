@@ -7,7 +7,8 @@ ghost use lib.ListN.{length};
 ghost use Rattle.word_list.specs.Words.{Group};
 ghost use Rattle.cells.specs.Cells.{SizeAllowed};
 ghost use Rattle.sweep.specs.Bytes.{addBytes};
-ghost use Rattle.edge.specs.Table.{edgesIn, activeIn};
+ghost use Rattle.edge.specs.Table.{edgesIn};
+ghost use Rattle.active_edges.specs.Floats.{activeIn};
 ghost use Rattle.coverage.specs.Drawing.{edgesRow, groupRow};
 ghost use Rattle.coverage.specs.Scratch.{floatsNeeded, countersNeeded, Room, Clean};
 ghost use Rattle.coverage.specs.Resolving.{GroupStored, SomeGroupStored, sizeOf, rowsAdded, edgesRows, Drawable, Drawn, RowsReady};
@@ -26,7 +27,7 @@ pub fn counters_needed(size: Size) -> usize
     requires { ⌜ SizeAllowed size ⌝ }
     ensures { λ r. ⌜ r ≡ countersNeeded size ⌝ }
 {
-    row::mark_words(size.width) + size.height
+    accumulation::mark_words(size.width) + size.height
 }
 
 // ---- a group
@@ -53,16 +54,16 @@ fn draw_row(
         return 0;
     }
     let width = l.width;
-    let top = float::from_whole(row);
-    let bottom = float::from_whole(row + 1);
-    let below = edge::pieces(
+    let top = whole::from_whole(row);
+    let bottom = whole::from_whole(row + 1);
+    let below = active_edges::pieces(
         floats,
         touched,
         l,
         n,
         top,
         bottom,
-        float::from_whole(height),
+        whole::from_whole(height),
     );
     sweep::sweep(line, &mut floats[..width], touched, even_odd);
     below
@@ -82,13 +83,13 @@ fn draw_rows(
     ensures { λ _. ⌜ Clean (now (floats .exit)) (now (counters .exit)) (sizeOf l height) ⌝ }
 {
     let width = l.width;
-    let words = row::mark_words(width);
+    let words = accumulation::mark_words(width);
     let end = words + height;
     let mut from = 0;
     let mut kept = 0;
     let mut row = 0;
     while row < height {
-        let n = edge::join(floats, &mut counters[words..end], l, kept, row);
+        let n = active_edges::join(floats, &mut counters[words..end], l, kept, row);
         let to = from + width;
         kept = draw_row(
             &mut mask[from..to],
@@ -134,7 +135,7 @@ pub fn resolve(
         active: nexts + points,
         count,
     };
-    let words = row::mark_words(width);
+    let words = accumulation::mark_words(width);
     let end = words + height;
     edge::table(floats, &mut counters[words..end], l);
     draw_rows(mask, floats, counters, l, height, even_odd);

@@ -1,7 +1,7 @@
--- The edge table, one edge more at a time, and the list that a row's head leads through. Assumes nothing.
+-- The edge table, one edge more at a time. Assumes nothing.
 use mathlib.Core.Path.{_≡_, refl, sym, ap, _∙_, subst}
 use mathlib.Core.Bool.{Bool, true, false, cond}
-use mathlib.Core.List.{List, _∷_}
+use mathlib.Core.List.{List}
 use Prim.Native.Nat.{ℕ, zero, suc, _+_, _*_, _-_, _≤_, _<_}
 use native.Mathlib.Omega.{arith}
 use native.Mathlib.Decide.{ℕ-discrete}
@@ -9,13 +9,12 @@ use lib.Dec.{eqb}
 use lib.ListN.{length, getD, set, length-set}
 use lib.Seq.{getD-set-same, getD-set-other}
 use lib.Ieee.{Float, nan}
-use borrow.Author.Tests.{eqb-true, eq-eqb, ne-eqb}
-use Rattle.float.specs.Whole.{ofWhole}
+use borrow.Author.Tests.{eq-eqb, ne-eqb}
+use Rattle.whole.specs.Whole.{ofWhole}
 use Rattle.edge.specs.declared.Edge.{Edge}
 use Rattle.edge.specs.declared.Layout.{Layout}
-use Rattle.edge.specs.Edges.{startRow, startingIn}
-use Rattle.edge.specs.Floats.{edgesAt}
-use Rattle.edge.specs.Table.{nth, Placed, firstIn, nextOf, InTable, NextsChanged, listFrom}
+use Rattle.edge.specs.Edges.{startRow}
+use Rattle.edge.specs.Table.{nth, Placed, firstIn, nextOf, InTable, NextsChanged}
 use Rattle.edge.proofs.Floats.{Same, same-edge}
 
 pub placed-long : {fs gs : List Float} {l : Layout} → length gs ≡ length fs → Placed fs l → Placed gs l
@@ -162,46 +161,3 @@ module _ {fs : List Float} {l : Layout} (p : Placed fs l) {heads₀ : List ℕ} 
             changed = subst (λ (x : List Float). NextsChanged fs x l) (sym h) (nexts-set fs gs l last (ofWhole (getD heads row 0)) in-count (s .changed));
             tabled = rw (h, k, e) (linked placed in-count next-tabled has-head);
           }
-
--- ---- the list of a row
-
-module _ (fs : List Float) (l : Layout) (row : ℕ) where
-  -- what starts in the row from place j on is the list of the first of them
-  pub gathered : (m j : ℕ) → j + m ≡ l .count → startingIn row (edgesAt fs (l .width + 5 * j) m) ≡ listFrom fs l row (firstIn fs l row j m)
-  unfolding startingIn edgesAt firstIn listFrom
-  gathered zero j e = refl
-  gathered (suc m) j e = go (eqb (startRow (nth fs l j)) row) (gathered m (j + 1) (omega arith))
-    where
-      s : l .width + 5 * j + 5 ≡ l .width + 5 * (j + 1)
-      s = omega arith
-
-      k : l .count - (j + 1) ≡ m
-      k = omega arith
-
-      one : j + 1 ≡ suc j
-      one = omega arith
-
-      go : (b : Bool) → startingIn row (edgesAt fs (l .width + 5 * (j + 1)) m) ≡ listFrom fs l row (firstIn fs l row (j + 1) m)
-          → cond b (nth fs l j ∷ startingIn row (edgesAt fs (l .width + 5 * j + 5) m)) (startingIn row (edgesAt fs (l .width + 5 * j + 5) m))
-          ≡ listFrom fs l row (cond b (j + 1) (firstIn fs l row (j + 1) m))
-      go true h = rw (one, s) (ap (λ (x : ℕ). nth fs l j ∷ startingIn row (edgesAt fs (l .width + 5 * (j + 1)) x)) (sym k))
-      go false h = rw s h
-
-  -- a place that a list leads to is one of the row's
-  pub leads : (m j : ℕ) → j + m ≡ l .count → (k : ℕ) → firstIn fs l row j m ≡ suc k → (k < l .count) × (startRow (nth fs l k) ≡ row)
-  unfolding firstIn
-  leads zero j e k h = absurd (omega arith)
-  leads (suc m) j e k h = go (eqb (startRow (nth fs l j)) row) refl (leads m (j + 1) (omega arith) k) h
-    where
-      go : (b : Bool) → eqb (startRow (nth fs l j)) row ≡ b → (firstIn fs l row (j + 1) m ≡ suc k → (k < l .count) × (startRow (nth fs l k) ≡ row))
-          → cond b (j + 1) (firstIn fs l row (j + 1) m) ≡ suc k → (k < l .count) × (startRow (nth fs l k) ≡ row)
-      go true t ih q = let p : j ≡ k = omega arith in (omega arith, subst (λ (x : ℕ). startRow (nth fs l x) ≡ row) p (eqb-true _ _ t))
-      go false t ih q = ih q
-
-  pub list-open : (at : ℕ) → 0 < at → at ≤ l .count → listFrom fs l row at ≡ nth fs l (at - 1) ∷ listFrom fs l row (firstIn fs l row at (l .count - at))
-  unfolding listFrom
-  list-open zero h g = absurd (omega arith)
-  list-open (suc k) h g =
-      let a : suc k - 1 ≡ k = omega arith in
-      let b : k + 1 ≡ suc k = omega arith in
-      rw (a, b) (ap (λ (r : List Edge). nth fs l k ∷ r) (gathered (l .count - suc k) (suc k) (omega arith)))

@@ -16,7 +16,7 @@ use lib.Ieee.Fits.{down-pos}
 use borrow.Author.Tests.{lt-ltb, le-ltb, le-leb, lt-leb, leb-false, eq-eqb, ne-eqb}
 use Rattle.float.specs.Ops.{_⊖_, _⊘_, f0, f1, f-1}
 use Rattle.float.specs.Simple.{maxOf}
-use Rattle.float.specs.Whole.{columnOf, ofWhole}
+use Rattle.whole.specs.Whole.{columnOf, ofWhole}
 use Rattle.edge.specs.declared.Edge.{Edge}
 use Rattle.edge.specs.Edges.{slopedOf, edgeBetween, startRow}
 use Rattle.edge.specs.Floats.{edgeAt, edgesAt}

@@ -1,20 +1,20 @@
-// Edges: those of contours, the edge table by start row, the active edges of a row.
+// Edges: those of contours, and the edge table by start row. The public functions are for the
+// crates above: none is a call of the kiosk's.
 //
-// All of them stand in lent scratch:
+// They stand in lent scratch, with the active edges behind them:
 //
 //     floats:    [ width cells ][ 5 × points: edges ][ points: nexts ][ 5 × points: active edges ]
-//     counters:  [ row::mark_words(width): marks ][ height: heads ]
+//     counters:  [ accumulation::mark_words(width): marks ][ height: heads ]
 //
 // A row's head is one more than the place of the first edge that starts in it, an edge's next one
 // more than that of the next edge of the same row, and 0 ends the list.
 ghost use mathlib.Core.Path.{_≡_};
 ghost use Prim.Native.Nat.{ℕ, _+_, _*_, _≤_, _<_};
-ghost use lib.ListN.{length, getD, set, take};
-ghost use Rattle.float.specs.Whole.{ofWhole};
-ghost use Rattle.row.specs.Marks.{Ready};
-ghost use Rattle.edge.specs.Edges.{slopedOf, edgeBetween, startRow, atOf, pieceOf};
+ghost use lib.ListN.{length, getD, set};
+ghost use Rattle.whole.specs.Whole.{ofWhole};
+ghost use Rattle.edge.specs.Edges.{slopedOf, edgeBetween, startRow, atOf};
 ghost use Rattle.edge.specs.Floats.{edgeAt, putEdge, Pushed};
-ghost use Rattle.edge.specs.Table.{nth, Placed, InTable, NextsChanged, Joining, Joined, Kept, ActiveRow, Pieces};
+ghost use Rattle.edge.specs.Table.{nth, Placed, InTable, NextsChanged};
 
 // An edge from its top to its bottom: x and y at the top, the y at its bottom, the change in x for
 // each unit of y, and 1 if it was drawn downwards, -1 if upwards.
@@ -43,7 +43,7 @@ pub struct Layout {
     pub count: usize,
 }
 
-fn load(floats: &[f32], at: usize) -> Edge
+pub fn load(floats: &[f32], at: usize) -> Edge
     requires { ⌜ at + 5 ≤ length (now floats) ⌝ }
     ensures { λ r. ⌜ r ≡ edgeAt (now (floats .entry)) at ⌝ }
 {
@@ -56,7 +56,7 @@ fn load(floats: &[f32], at: usize) -> Edge
     }
 }
 
-fn store(floats: &mut [f32], at: usize, e: Edge)
+pub fn store(floats: &mut [f32], at: usize, e: Edge)
     requires { ⌜ at + 5 ≤ length (now floats) ⌝ }
     ensures { λ _. ⌜ now (floats .exit) ≡ putEdge (now (floats .entry)) at e ⌝ }
 {
@@ -85,7 +85,7 @@ fn push_down(
     requires { ⌜ height ≤ 4096 ⌝ }
     ensures { λ r. ⌜ Pushed (now (floats .entry)) (now (floats .exit)) edges count r 1 (slopedOf height xa ya xb yb down) ⌝ }
 {
-    if yb <= 0.0 || ya >= float::from_whole(height) {
+    if yb <= 0.0 || ya >= whole::from_whole(height) {
         return count;
     }
     let e = Edge {
@@ -130,7 +130,7 @@ pub fn push(
 fn start_row(e: Edge) -> usize
     ensures { λ r. ⌜ r ≡ startRow e ⌝ }
 {
-    float::to_column(float::max(e.y, 0.0))
+    whole::to_column(float::max(e.y, 0.0))
 }
 
 // Puts edge i before the others of its row.
@@ -140,7 +140,7 @@ fn link(floats: &mut [f32], heads: &mut [u64], nexts: usize, i: usize, row: usiz
     ensures { λ _. ⌜ now (floats .exit) ≡ set (now (floats .entry)) (nexts + i) (ofWhole (getD (now (heads .entry)) row 0)) ⌝ }
     ensures { λ _. ⌜ now (heads .exit) ≡ set (now (heads .entry)) row (i + 1) ⌝ }
 {
-    floats[nexts + i] = float::from_whole(heads[row] as usize);
+    floats[nexts + i] = whole::from_whole(heads[row] as usize);
     heads[row] = (i + 1) as u64;
 }
 
@@ -159,77 +159,4 @@ pub fn table(floats: &mut [f32], heads: &mut [u64], l: Layout)
         let e = load(floats, l.width + 5 * i);
         link(floats, heads, l.nexts, i, start_row(e));
     }
-}
-
-// ---- the active edges
-
-// Takes a row's edges out of the table and copies them behind the active ones that were kept.
-// Returns how many are active now.
-pub fn join(floats: &mut [f32], heads: &mut [u64], l: Layout, kept: usize, row: usize) -> usize
-    requires { ⌜ Joining (now floats) (now heads) l kept row ⌝ }
-    ensures { λ r. ⌜ Joined (now (floats .entry)) (now (floats .exit)) l kept row r ⌝ }
-    ensures { λ _. ⌜ now (heads .exit) ≡ set (now (heads .entry)) row 0 ⌝ }
-{
-    let mut n = kept;
-    let mut at = heads[row] as usize;
-    heads[row] = 0;
-    while 0 < at {
-        let k = at - 1;
-        let e = load(floats, l.width + 5 * k);
-        store(floats, l.active + 5 * n, e);
-        let next = l.nexts + k;
-        at = float::to_column(floats[next]);
-        n += 1;
-    }
-    n
-}
-
-// One edge's piece in the row from `top` to `bottom`.
-fn piece(cells: &mut [f32], touched: &mut [u64], e: Edge, top: f32, bottom: f32, height: f32)
-    requires { ⌜ Ready (now cells) (now touched) ⌝ }
-    ensures { λ _. ⌜ now (cells .exit) ≡ pieceOf height top bottom (now (cells .entry)) e ⌝ }
-    ensures { λ _. ⌜ Ready (now (cells .exit)) (now (touched .exit)) ⌝ }
-{
-    let y = float::max(e.y, top);
-    let next = float::min(float::min(bottom, e.bottom), height);
-    row::span(cells, touched, e.at(y), e.at(next), (next - y) * e.down);
-}
-
-// Keeps an active edge that reaches below the row. Returns how many are kept now.
-fn keep(floats: &mut [f32], l: Layout, kept: usize, e: Edge, bottom: f32) -> usize
-    requires { ⌜ l .active + 5 * kept + 5 ≤ length (now floats) ⌝ }
-    ensures { λ r. ⌜ Kept (now (floats .entry)) l kept e bottom (now (floats .exit)) r ⌝ }
-{
-    if e.bottom > bottom {
-        store(floats, l.active + 5 * kept, e);
-        return kept + 1;
-    }
-    kept
-}
-
-// Adds the pieces of n active edges to the row's cells, and keeps the edges that reach below the
-// row. Returns how many these are.
-pub fn pieces(
-    floats: &mut [f32],
-    touched: &mut [u64],
-    l: Layout,
-    n: usize,
-    top: f32,
-    bottom: f32,
-    height: f32,
-) -> usize
-    requires { ⌜ ActiveRow (now floats) (now touched) l n ⌝ }
-    ensures { λ r. ⌜ Pieces (now (floats .entry)) l n height top bottom (now (floats .exit)) r ⌝ }
-    ensures { λ r. ⌜ ActiveRow (now (floats .exit)) (now (touched .exit)) l r ⌝ }
-{
-    let width = l.width;
-    let mut kept = 0;
-    let mut i = 0;
-    while i < n {
-        let e = load(floats, l.active + 5 * i);
-        piece(&mut floats[..width], touched, e, top, bottom, height);
-        kept = keep(floats, l, kept, e, bottom);
-        i += 1;
-    }
-    kept
 }

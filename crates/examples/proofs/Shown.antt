@@ -3,13 +3,15 @@ use mathlib.Core.Path.{refl}
 use lib.Count.{trailingZeros}
 use lib.Ieee.{ofBits, ofFields, odd, units, round, size, span, climb, ofInt, add, sub, sum, mul, div, rem, neg, lt, le, eq, ne, isNan, toUnsigned}
 use Rattle.float.specs.Simple.{absOf, minOf, maxOf}
-use Rattle.float.specs.Width.{narrowOf}
+use Rattle.narrowing.specs.Width.{narrowOf}
 use Rattle.roots.specs.Root.{rootBelow, wholeRoot, roundRoot, sqrtOf, hypotOf}
 use Rattle.word_list.specs.Words.{andThen, beyond, readCount, readCoordinate, readPoint, readPoints, readContour, readContours, readGroup, readGroups, readWords, pointsOf, pointsIn}
-use Rattle.row.specs.Row.{addOf, evenlyOf, singleOf, betweenOf, acrossOf, ceilColumn, insideOf, clipOf, spanBy}
+use Rattle.accumulation.specs.Area.{addOf, evenlyOf, singleOf, betweenOf, acrossOf}
+use Rattle.row.specs.Row.{ceilColumn, insideOf, clipOf, spanBy}
 use Rattle.sweep.specs.Bytes.{shareOf, coveredOf, bytesOf, addBytes}
 use Rattle.contour.specs.Contours.{walkOf, lastOf, contourOf, edgesOf}
-use Rattle.edge.specs.Edges.{slopedOf, edgeBetween, startingIn, reachingBelow, activeEdges, pieceOf, piecesOf}
+use Rattle.edge.specs.Edges.{slopedOf, edgeBetween}
+use Rattle.active_edges.specs.Active.{startingIn, reachingBelow, activeEdges, pieceOf, piecesOf}
 use Rattle.cells.specs.Rows.{rowsFrom}
 use Rattle.coverage.specs.Drawing.{edgesRow, groupRow, addGroups}
 use Rattle.laying.specs.Laying.{laidLine}

@@ -1,12 +1,12 @@
-// float's functions under C names, for a program outside to call. Each promises what the function
-// that it calls promises.
+// The functions of float, narrowing, whole and roots under C names, for a program outside to call.
+// Each promises what the function that it calls promises.
 ghost use mathlib.Core.Path.{_≡_};
 ghost use Prim.Native.Nat.{_^_, min as smallerOf};
 ghost use lib.Ieee.{binary32, binary64};
 ghost use lib.Ieee.Scale.{finite};
 ghost use Rattle.float.specs.Simple.{absOf, minOf, maxOf, signumOf};
-ghost use Rattle.float.specs.Width.{narrowOf};
-ghost use Rattle.float.specs.Whole.{floorOf, ceilOf, columnOf, byteOf, ofWhole};
+ghost use Rattle.narrowing.specs.Width.{narrowOf};
+ghost use Rattle.whole.specs.Whole.{floorOf, ceilOf, columnOf, byteOf, ofWhole};
 ghost use Rattle.roots.specs.Root.{sqrtOf, hypotOf};
 
 #[no_mangle]
@@ -55,7 +55,7 @@ pub extern "C" fn beamnettle_float_widen(x: f32) -> f64
 pub extern "C" fn beamnettle_float_narrow(x: f64) -> f32
     ensures { λ r. ⌜ r ≡ narrowOf x ⌝ }
 {
-    float::narrow(x)
+    narrowing::narrow(x)
 }
 
 #[no_mangle]
@@ -83,28 +83,28 @@ pub extern "C" fn beamnettle_float_hypot(x: f32, y: f32) -> f32
 pub extern "C" fn beamnettle_float_floor(x: f32) -> f32
     ensures { λ r. ⌜ r ≡ floorOf x ⌝ }
 {
-    float::floor(x)
+    whole::floor(x)
 }
 
 #[no_mangle]
 pub extern "C" fn beamnettle_float_ceil(x: f32) -> f32
     ensures { λ r. ⌜ r ≡ ceilOf x ⌝ }
 {
-    float::ceil(x)
+    whole::ceil(x)
 }
 
 #[no_mangle]
 pub extern "C" fn beamnettle_float_to_column(x: f32) -> usize
     ensures { λ r. ⌜ r ≡ columnOf x ⌝ }
 {
-    float::to_column(x)
+    whole::to_column(x)
 }
 
 #[no_mangle]
 pub extern "C" fn beamnettle_float_to_byte(x: f32) -> u8
     ensures { λ r. ⌜ r ≡ byteOf x ⌝ }
 {
-    float::to_byte(x)
+    whole::to_byte(x)
 }
 
 // A number over 2 ^ 24, of which not every float is exact, becomes 2 ^ 24.
@@ -113,7 +113,7 @@ pub extern "C" fn beamnettle_float_from_whole(n: usize) -> f32
     ensures { λ r. ⌜ r ≡ ofWhole (smallerOf n (2 ^ 24)) ⌝ }
 {
     if n < 0x100_0000 {
-        return float::from_whole(n);
+        return whole::from_whole(n);
     }
-    float::from_whole(0x100_0000)
+    whole::from_whole(0x100_0000)
 }

@@ -6,7 +6,7 @@ use mathlib.Core.Bool.{true, false}
 use lib.Ieee.{Float, inf, binary64, ofBits, neg, sub, mul, div, lt}
 use Rattle.float.specs.Ops.{_⊕_, _⊗_, f0, f1}
 use Rattle.float.specs.Simple.{minOf, maxOf}
-use Rattle.float.specs.Width.{narrowOf}
+use Rattle.narrowing.specs.Width.{narrowOf}
 use Rattle.geometry.specs.declared.Transform2D.{Transform2D}
 use Rattle.geometry.specs.declared.Position.{Position}
 use Rattle.geometry.specs.declared.Bounds.{Bounds}

@@ -105,12 +105,12 @@ impl Transform2D {
         }
         let invdet = 1.0 / det;
         Self {
-            a: float::narrow(d * invdet),
-            b: float::narrow(-b * invdet),
-            c: float::narrow(-c * invdet),
-            d: float::narrow(a * invdet),
-            x: float::narrow((c * y - d * x) * invdet),
-            y: float::narrow((b * x - a * y) * invdet),
+            a: narrowing::narrow(d * invdet),
+            b: narrowing::narrow(-b * invdet),
+            c: narrowing::narrow(-c * invdet),
+            d: narrowing::narrow(a * invdet),
+            x: narrowing::narrow((c * y - d * x) * invdet),
+            y: narrowing::narrow((b * x - a * y) * invdet),
         }
     }
 

@@ -1,13 +1,9 @@
 -- Decided: an answer that is done where it can be, and refused for each cause, is so only then. Causes: a drawing.
 -- LayCauses: a laying-on. Numbers: document 01's number of each call. Laws: a list's faults, and the cells after a
--- drawing. Cleared, OneGroup, AllGroups: the steps of a drawing. Scratch: a list without a fault, and the scratch that
--- it needs.
+-- drawing. Scratch: a list without a fault, and the scratch that it needs.
 pub mod Decided
 pub mod Causes
 pub mod LayCauses
 pub mod Numbers
 pub mod Laws
 pub mod Scratch
-pub mod Cleared
-pub mod OneGroup
-pub mod AllGroups

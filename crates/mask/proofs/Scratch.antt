@@ -21,7 +21,7 @@ use Rattle.cells.proofs.Sizes.{cells-long}
 use Rattle.coverage.specs.Scratch.{floatsNeeded, countersNeeded, Room}
 use Rattle.mask.specs.Calls.{Lent, Drawing}
 use Rattle.mask.specs.Laws.{CanDraw, FirstCause, scratch-short}
-use Rattle.mask.specs.Steps.{ListCounted}
+use Rattle.groups.specs.Steps.{ListCounted}
 
 -- a list that was read without a fault
 pub list-counted : (ws : List ℤ) (k points : ℕ) → scanOf (length ws) pointsIn 0 (readWords ws) ≡ scan.At k points → ListCounted ws points

@@ -1,5 +1,5 @@
--- Calls: the calls on masks, outright. Laws: what holds of them as a whole.
--- Steps: what the functions that draw a list promise to each other.
+-- Calls: the calls on masks, outright. Laws: what holds of them as a whole. Steps: what the functions promise to each
+-- other.
 pub mod Calls
 pub mod Laws
 pub mod Steps

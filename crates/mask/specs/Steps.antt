@@ -1,25 +1,20 @@
--- What the functions that draw a list promise to each other. Definitions only.
+-- What the functions of this crate promise to each other. Definitions only.
 use mathlib.Core.Path.{_≡_}
-use mathlib.Core.List.{List}
-use Prim.Native.Nat.{ℕ, _≤_, _<_}
-use lib.IntN.{ℤ}
-use lib.ListN.{length, drop}
-use Rattle.word_list.specs.Words.{Group, readGroup, readWords, readOr, groupsOf, pointsIn}
-use Rattle.words.specs.Scan.{Fine, noGroup}
-use Rattle.word_list.specs.Words.{groupPoints}
+use Prim.Native.Nat.{ℕ}
+use Rattle.fault.specs.declared.Check.{Check}
+use Rattle.fault.specs.declared.Check.the-variants as check
+use Rattle.cells.specs.declared.Size.{Size}
+use Rattle.laying.specs.declared.Offset.{Offset}
+use Rattle.laying.specs.Laying.{laying}
+use Rattle.mask.specs.Calls.{layAnswer}
+use Rattle.mask.specs.declared.Outcome.{Outcome}
+use Rattle.mask.specs.declared.Outcome.the-variants.{Done, Refused}
 
--- a list without a fault, of so many points
-pub record ListCounted (words : List ℤ) (points : ℕ) : Type 0 where
-  pub fine : Fine (readWords words)
-  pub count : points ≡ pointsIn (groupsOf words)
-  pub few : points ≤ 2048
+-- the answer where a call is done unless its check refuses
+abbrev pub outcomeOf : Check → Outcome
+outcomeOf check.Pass = Done
+outcomeOf (check.Refused f) = Refused f
 
--- the group whose words start at a place
-abbrev pub groupAt : List ℤ → ℕ → Group
-groupAt words at = readOr noGroup (readGroup 0 (drop at words))
-
--- there is one without a fault, of at most so many points
-pub record GroupFine (words : List ℤ) (at points : ℕ) : Type 0 where
-  pub inside : at < length words
-  pub fine : Fine (readGroup 0 (drop at words))
-  pub few : groupPoints (groupAt words at) ≤ points
+-- a check that tells the answer of a laying-on, whatever its offset, from the sizes and the lengths of what is lent
+pub record LayChecked (size : Size) (length : ℕ) (otherSize : Size) (otherLength : ℕ) (c : Check) : Type 0 where
+  pub tells : (offset : Offset) → layAnswer (laying size otherSize offset) (record { mask = length }) otherLength ≡ outcomeOf c

@@ -9,17 +9,17 @@ use Rattle.shape.specs.declared.MaybeBox.{MaybeBox}
 use Rattle.shape.specs.declared.MaybeBox.the-variants as maybe
 use Rattle.shape.specs.Outline.{outlinePointOf, allBelow}
 use Rattle.clip_coverage.specs.declared.ClipCoverage.{ClipCoverage}
-use Rattle.clip_coverage.specs.declared.MaybeCoverage.{MaybeCoverage}
-use Rattle.clip_coverage.specs.declared.MaybeCoverage.the-variants as coverage
 use Rattle.clip_coverage.specs.Limits.{containmentSlack}
-use Rattle.clip_coverage.specs.Coverage.{coverageOf}
 use Rattle.clip_coverage.specs.Distance.{distanceOf}
+use Rattle.covering.specs.declared.MaybeCoverage.{MaybeCoverage}
+use Rattle.covering.specs.declared.MaybeCoverage.the-variants as coverage
+use Rattle.covering.specs.Coverage.{coverageOf}
 use Rattle.beside.specs.declared.Placed.{Placed}
 use Rattle.beside.specs.declared.MaybePlaced.{MaybePlaced}
 use Rattle.beside.specs.declared.MaybePlaced.the-variants as alongside
-use Rattle.beside.specs.declared.Sides.{Sides}
+use Rattle.sides.specs.declared.Sides.{Sides}
 use Rattle.beside.specs.Alongside.{alongsideOf}
-use Rattle.beside.specs.Shared.{squareOf, bothSquareOf, sidesOf, ownSidesOf, placedSidesOf, sidesAreOf, apartOf, betweenOf}
+use Rattle.sides.specs.Shared.{squareOf, bothSquareOf, sidesOf, ownSidesOf, placedSidesOf, sidesAreOf, apartOf, betweenOf}
 
 -- ---- RoundedBox::intersection_within
 

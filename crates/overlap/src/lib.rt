@@ -10,14 +10,14 @@ ghost use Rattle.overlap.specs.Overlap.{roundOverlapOf, cornerOverlapOf,
 ghost use Rattle.overlap.specs.Calls.{intersectionCall};
 use beside::MaybePlaced;
 use beside::Placed;
-use beside::Sides;
 use clip_coverage::ClipCoverage;
-use clip_coverage::MaybeCoverage;
+use covering::MaybeCoverage;
 use fault::Check;
 use geometry::Position;
 use shape::BoxAnswer;
 use shape::MaybeBox;
 use shape::RoundedBox;
+use sides::Sides;
 
 // A box with round corners, as far as its extent allows.
 fn with_corners(b: RoundedBox, rx: f32, ry: f32) -> RoundedBox
@@ -39,7 +39,7 @@ fn with_corners(b: RoundedBox, rx: f32, ry: f32) -> RoundedBox
 fn leaves_one(one: RoundedBox, two: RoundedBox, s: Sides) -> bool
     ensures { λ r. ⌜ r ≡ leavesOneOf one two s ⌝ }
 {
-    beside::square(two) && s.are(Sides::own(one))
+    sides::square(two) && s.are(Sides::own(one))
 }
 
 // Whether `one` is a rect whose sides all lie at or past those of a box placed in its frame, which it
@@ -47,7 +47,7 @@ fn leaves_one(one: RoundedBox, two: RoundedBox, s: Sides) -> bool
 fn leaves_two(one: RoundedBox, p: Placed, s: Sides) -> bool
     ensures { λ r. ⌜ r ≡ leavesTwoOf one p s ⌝ }
 {
-    beside::square(one) && s.are(p.sides())
+    sides::square(one) && s.are(Sides::placed(p))
 }
 
 // Whether a point is within `slack` of the further of two boxes' edges.
@@ -104,10 +104,10 @@ fn round_overlap(
 ) -> MaybeBox
     ensures { λ r. ⌜ r ≡ roundOverlapOf one two first second fringe slack ⌝ }
 {
-    let MaybeCoverage::Coverage(mine) = clip_coverage::coverage_unchecked(one, fringe) else {
+    let MaybeCoverage::Coverage(mine) = covering::coverage_unchecked(one, fringe) else {
         return MaybeBox::NoBox;
     };
-    let MaybeCoverage::Coverage(theirs) = clip_coverage::coverage_unchecked(two, fringe) else {
+    let MaybeCoverage::Coverage(theirs) = covering::coverage_unchecked(two, fringe) else {
         return MaybeBox::NoBox;
     };
     chosen(first, second, mine, theirs, slack)
@@ -125,7 +125,7 @@ fn corner_overlap(
 ) -> MaybeBox
     ensures { λ r. ⌜ r ≡ cornerOverlapOf one two p s fringe slack ⌝ }
 {
-    let both = beside::between(one, s);
+    let both = sides::between(one, s);
     let theirs = with_corners(both, p.rx, p.ry);
     if leaves_two(one, p, s) {
         return MaybeBox::Box(theirs);
@@ -145,8 +145,8 @@ fn overlap(
 ) -> MaybeBox
     ensures { λ r. ⌜ r ≡ overlapOf one two p s fringe slack ⌝ }
 {
-    if beside::both_square(one, two) {
-        return MaybeBox::Box(with_corners(beside::between(one, s), 0.0, 0.0));
+    if sides::both_square(one, two) {
+        return MaybeBox::Box(with_corners(sides::between(one, s), 0.0, 0.0));
     }
     if leaves_one(one, two, s) {
         return MaybeBox::Box(one);

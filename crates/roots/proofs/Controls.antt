@@ -4,7 +4,7 @@ use mathlib.Core.List.{List, [], _∷_}
 use mathlib.Core.Bool.{true}
 use Prim.Native.Nat.{ℕ}
 use lib.Ieee.{binary32, binary64, ofBits, toBits, add, mul, round}
-use Rattle.float.specs.Width.{narrowOf}
+use Rattle.narrowing.specs.Width.{narrowOf}
 use Rattle.float.proofs.Controls.{f32, f64, agrees}
 use Rattle.roots.specs.Root.{sqrtOf, hypotOf}
 

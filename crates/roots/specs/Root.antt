@@ -6,7 +6,7 @@ use Prim.Native.Nat.{ℕ, zero, suc, _+_, _-_, _*_, _/_, _^_, compare}
 use mathlib.Core.Bool.{true, false, cond}
 use lib.Dec.{leb}
 use lib.Ieee.{Float, nan, inf, fin, Format, binary64, prec, low, up, down, size, nearest, units, add, mul}
-use Rattle.float.specs.Width.{narrowOf}
+use Rattle.narrowing.specs.Width.{narrowOf}
 
 -- the larger of 2 * r and 2 * r + 1 whose square is at most n
 abbrev pub rootDigit : ℕ → ℕ → ℕ

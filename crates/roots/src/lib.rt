@@ -201,5 +201,5 @@ pub fn hypot(x: f32, y: f32) -> f32
 {
     let a = float::widen(x);
     let b = float::widen(y);
-    float::narrow(sqrt64(a * a + b * b))
+    narrowing::narrow(sqrt64(a * a + b * b))
 }

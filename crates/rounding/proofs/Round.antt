@@ -3,11 +3,11 @@ use mathlib.Core.Path.{_≡_, refl, ap}
 use mathlib.Core.List.{[], _∷_}
 use mathlib.Core.Bool.{Bool, true, false}
 use Prim.Native.Nat.{ℕ, _+_, _-_, _*_, _^_, _≤_, _<_}
-use native.Mathlib.Nat.{le-of-mul-le-mul-right, mul-le-mul-right, mul-pos}
+use native.Mathlib.Nat.{le-of-mul-le-mul-right, mul-le-mul-right, mul-pos, zero-lt-suc}
 use native.Mathlib.Omega.{arith}
 use lib.Dec.{T}
 use lib.Pow.{pow-pos}
-use lib.Ieee.{Float, nan, inf, fin, Format, emax, low, hid, up, down, round, fits}
+use lib.Ieee.{Float, nan, inf, fin, Format, prec, emax, low, hid, up, down, round, fits}
 use lib.Ieee.Scale.{grid, finite}
 use Rattle.fraction.specs.Whole.{Whole, _+ʷ_, _×ℕ_, natʷ, _≤ʷ_, _≈ʷ_}
 use Rattle.fraction.specs.Fraction.{Fraction, _≤ᶠ_, _≈ᶠ_, natᶠ, _+ᶠ_, _*ᶠ_, negᶠ, Near, Within}
@@ -118,12 +118,15 @@ module _ (f : Format) (s : Bool) (a c : ℕ) (C : 0 < c) (w : Within (signedᶠ 
   capped⁻ (inf b) p t h = absurd p
   capped⁻ (fin b m e) p t h = record { le = side⁻ s b a c (m * up e) (down e) (grid f a c) (2 ^ low f) C (cap-above f a c C small b m e t) (cap-below f a c C small b m e t) (h .le) }
 
+  abbrev twice-pos : 0 < 2 * hid f
+  twice-pos = mul-pos (zero-lt-suc 1) (pow-pos (prec f - 1))
+
   -- off by t, whichever it is
   by : (t : Fraction) (z : ℕ) (T : At (2 ^ low f * c * (2 * hid f)) t) → T .z ≡ natʷ z → Off (grid f a c) c (a * 2 ^ low f) (hid f) z → Rounds f t (signedᶠ s a c C) (round f s a c)
   by t z T e o = record {
     fine = worth .0;
     near = λ B b. near-same (sym≈ (worth .1))
-        (near-weaken (gap s (grid f a c) c (2 ^ low f) a (hid f) z C (pow-pos (low f)) ((roundoff f) .pos) t T e o)
+        (near-weaken (gap s (grid f a c) c (2 ^ low f) a (hid f) z C (pow-pos (low f)) twice-pos t T e o)
         (add-mono (mul-mono (roundoff-nonneg f) (size-le s a c C B b)) (refl≤ t)));
     below = λ y p t h. trans (of-eq (worth .1)) (capped⁺ y p t h);
     above = λ y p t h. trans (capped⁻ y p t h) (of-eq (sym≈ (worth .1)));

@@ -12,10 +12,11 @@ use lib.ListN.{length}
 use lib.Ieee.{Float, Format, size, nearest, low, emax, prec, nan, inf, fin, binary32, lt, le, minus, ofInt, ofBits, round, units, odd, up, down}
 use borrow.Author.Tests.{le-ltb}
 use Rattle.float.specs.Ops.{f0, f1, _⊖_, _⊗_, _⊘_}
-use Rattle.float.specs.Whole.{ofWhole}
-use Rattle.row.specs.Row.{Cells, addOf, insideOf, clipOf, leftEnd, rightEnd, spanBy, spanOf}
+use Rattle.whole.specs.Whole.{ofWhole}
+use Rattle.accumulation.specs.Area.{Cells, addOf}
+use Rattle.accumulation.proofs.Adding.{length-add}
+use Rattle.row.specs.Row.{insideOf, clipOf, leftEnd, rightEnd, spanBy, spanOf}
 use Rattle.row.specs.Laws.{ThreeAreEnough}
-use Rattle.row.proofs.Adding.{length-add}
 
 -- ---- floats
 

@@ -13,7 +13,7 @@ use lib.Ieee.Exact.{HasValue}
 use lib.Ieee.Fits.{up-pos, down-pos}
 use lib.Ieee.Back.{unsigned-back, round-whole}
 use borrow.Author.Tests.{ltb-true, ltb-false, eq-eqb, ne-eqb, lt-ltb, le-ltb, le-leb}
-use Rattle.float.specs.Whole.{integralOf, floorOf, ceilOf, columnOf, ofWhole}
+use Rattle.whole.specs.Whole.{integralOf, floorOf, ceilOf, columnOf, ofWhole}
 use Rattle.row.specs.Row.{ceilColumn}
 use Rattle.row.specs.Laws.{ColumnsAre}
 

@@ -6,8 +6,9 @@ use Prim.Native.Nat.{ℕ, _+_, _<_}
 use lib.IntN.{ℤ}
 use lib.Ieee.{Float, fin, le}
 use Rattle.float.specs.Ops.{f0}
-use Rattle.float.specs.Whole.{floorOf, ceilOf, columnOf, ofWhole}
-use Rattle.row.specs.Row.{Cells, ceilColumn, spanBy}
+use Rattle.whole.specs.Whole.{floorOf, ceilOf, columnOf, ofWhole}
+use Rattle.accumulation.specs.Area.{Cells}
+use Rattle.row.specs.Row.{ceilColumn, spanBy}
 
 -- The Rust's `x.floor()` is x's column as a float, its `x.floor() as usize` is x's column, and its `x.ceil() as
 -- usize` is `ceilColumn x`

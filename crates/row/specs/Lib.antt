@@ -1,5 +1,3 @@
--- Row: what a piece of an edge adds to a row. Marks: which of a row's cells may hold area. Laws: why Row may be
--- believed.
+-- Row: what a piece of an edge adds to a row. Laws: why Row may be believed.
 pub mod Row
-pub mod Marks
 pub mod Laws

@@ -6,7 +6,7 @@ use native.Mathlib.Omega.{arith}
 use lib.Bits.{bitAnd, and-step, and-self, and-le-r}
 use lib.Count.{trailingZeros, under}
 use lib.Pow.{shr-shr}
-use Rattle.row.specs.Marks.{bitOf}
+use Rattle.accumulation.specs.Marks.{bitOf}
 
 bit-suc : (n i : ℕ) → bitOf n (suc i) ≡ bitOf (n / 2) i
 bit-suc n i = ap (λ (m : ℕ). m % 2) (sym (shr-shr n 1 i ∙ ap (λ (p : ℕ). n / 2 ^ p) (omega arith)))

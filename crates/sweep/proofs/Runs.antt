@@ -14,7 +14,7 @@ use lib.Seq.{drop-cons, drop-set-lt, take-at, drop-at, take-all, take-suc-set}
 use lib.Ieee.{Float, nan, binary32, fits, eq, lt, isNan, rem, mul, add, sub, sum, round, units, odd, size, span, climb, toUnsigned, ofBits, ofFields}
 use Rattle.float.specs.Ops.{f0, _⊕_}
 use Rattle.float.specs.Simple.{absOf, minOf}
-use Rattle.row.specs.Row.{Cells}
+use Rattle.accumulation.specs.Area.{Cells}
 use Rattle.sweep.specs.Bytes.{shareOf, coveredOf, bytesOf, addBytes}
 use Rattle.sweep.specs.declared.Run.{Run}
 use Rattle.sweep.specs.Sweeping.{plusOf, filledOf, Blank, lineFrom, Steady, Reached, Moved}

@@ -13,8 +13,8 @@ use lib.ListN.{length, getD, set, length-set, replicate, length-replicate, getD-
 use lib.Seq.{getD-set-same, getD-set-other, ext-getD}
 use lib.Ieee.{nan}
 use Rattle.float.specs.Ops.{f0}
-use Rattle.row.specs.Row.{Cells}
-use Rattle.row.specs.Marks.{markWords, bitOf, Clear, Ready}
+use Rattle.accumulation.specs.Area.{Cells}
+use Rattle.accumulation.specs.Marks.{markWords, bitOf, Clear, Ready}
 use Rattle.sweep.specs.declared.Run.{Run}
 use Rattle.sweep.specs.Sweeping.{Blank, Reached, Moved, MarkWord, WordDone, WordsDone}
 use Rattle.sweep.proofs.Winding.{steady-zero}

@@ -6,8 +6,8 @@ use mathlib.Core.List.{List, [], _∷_}
 use lib.Ieee.{Float, binary32, ofBits, lt, rem}
 use Rattle.float.specs.Ops.{_⊕_, _⊖_, _⊗_, f½, f1, f2}
 use Rattle.float.specs.Simple.{absOf, minOf}
-use Rattle.float.specs.Whole.{byteOf}
-use Rattle.row.specs.Row.{Cells}
+use Rattle.whole.specs.Whole.{byteOf}
+use Rattle.accumulation.specs.Area.{Cells}
 
 -- 255.0
 abbrev pub f255 : Float

@@ -8,9 +8,9 @@ use Prim.Native.Nat.{ℕ, _+_, _-_, _≤_, _<_, min}
 use lib.ListN.{length, getD, take, drop}
 use lib.Ieee.{Float, nan}
 use Rattle.float.specs.Ops.{f0, _⊕_}
-use Rattle.row.specs.Row.{Cells}
+use Rattle.accumulation.specs.Area.{Cells}
 use Rattle.sweep.specs.Bytes.{coveredOf, bytesOf, addBytes}
-use Rattle.row.specs.Marks.{bitOf}
+use Rattle.accumulation.specs.Marks.{bitOf}
 use Rattle.sweep.specs.declared.Run.{Run}
 
 -- a byte more, stopping at 255

@@ -6,7 +6,7 @@ ghost use Prim.Native.Nat.{_+_, _-_, _≤_, _<_};
 ghost use lib.ListN.{length, replicate, set};
 ghost use Rattle.float.specs.Ops.{f0};
 ghost use Rattle.sweep.specs.Bytes.{shareOf, coveredOf, bytesOf, addBytes};
-ghost use Rattle.row.specs.Marks.{Ready};
+ghost use Rattle.accumulation.specs.Marks.{Ready};
 ghost use Rattle.sweep.specs.Sweeping.{plusOf, filledOf, Blank, Reached, Moved, MarkWord, WordDone, WordsDone};
 
 // The share of a cell at a winding, by the rule.
@@ -26,7 +26,7 @@ fn share(even_odd: bool, winding: f32) -> f32
 pub fn covered(even_odd: bool, winding: f32) -> u8
     ensures { λ r. ⌜ r ≡ coveredOf «even_odd» winding ⌝ }
 {
-    float::to_byte(share(even_odd, winding) * 255.0 + 0.5)
+    whole::to_byte(share(even_odd, winding) * 255.0 + 0.5)
 }
 
 // ---- bytes of a line

@@ -14,7 +14,7 @@ use Rattle.fault.specs.declared.Check.the-variants as check
 use Rattle.shape.specs.Checks.{fringeCheckOf, pointCheckOf}
 use Rattle.fault.specs.Check.{_andThen_}
 use Rattle.boxes.specs.Checks.{countCheckOf, boxesCheckOf}
-use Rattle.clip_coverage.specs.Distance.{touchesOf}
+use Rattle.covering.specs.Touches.{touchesOf}
 use Rattle.touch.specs.declared.TouchAnswer.{TouchAnswer}
 use Rattle.touch.specs.declared.TouchAnswer.the-variants as answer
 

@@ -8,7 +8,7 @@ use lib.IntN.{ℤ}
 use lib.ListN.{length}
 use borrow.Author.Tests.{ltb-false}
 use Rattle.fault.specs.declared.Fault.the-variants.{CountOutOfRange}
-use Rattle.word_list.specs.Words.{Point, Group, pointsOf, groupPoints, Read, ok}
+use Rattle.word_list.specs.Words.{Point, Group, pointsOf, groupPoints, ok}
 use Rattle.word_list.specs.Words.{readCount, readPoint, readPoints, readContour, readContours, readGroup}
 use Rattle.word_list.proofs.Ends.{then-ok, cond-ok}
 

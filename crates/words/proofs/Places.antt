@@ -11,12 +11,13 @@ use Rattle.fault.specs.declared.Fault.{Fault}
 use Rattle.fault.specs.declared.Fault.the-variants.{CountOutOfRange}
 use Rattle.word_list.specs.Words.{Point, Group, pointsOf, pointsIn, Read, ok, fault, andThen, readOr}
 use Rattle.word_list.specs.Words.{readCount, readPoint, readPoints, readContour, readContours, readGroup, readGroups, readWords}
-use Rattle.words.specs.Scan.{countedOf, Fine, pointsFrom, contoursFrom, endOf, noGroup}
-use Rattle.words.specs.declared.Counted.{Counted}
-use Rattle.words.specs.declared.Counted.the-variants as counted
-use Rattle.words.specs.declared.Checked.the-variants as checked
+use Rattle.word_reader.specs.Reader.{countedOf}
+use Rattle.words.specs.Scan.{Fine, pointsFrom, contoursFrom, endOf, noGroup}
+use Rattle.word_reader.specs.declared.Counted.{Counted}
+use Rattle.word_reader.specs.declared.Counted.the-variants as counted
 use Rattle.word_list.proofs.Ends.{Both, then-ok, cond-ok, Ended, ended-group, placed}
-use Rattle.words.proofs.Steps.{at-end, at-word, pointAt, PointThere, point-there, point-read, count-next}
+use Rattle.word_reader.proofs.Reader.{at-end, at-word}
+use Rattle.words.proofs.Steps.{pointAt, PointThere, point-there, point-read, count-next}
 use Rattle.word_list.proofs.Few.{points-length, group-few}
 
 -- what was read without a fault

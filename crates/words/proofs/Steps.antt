@@ -4,27 +4,27 @@ use mathlib.Core.Bool.{Bool, true, false}
 use mathlib.Core.List.{List, [], _∷_}
 use Prim.Native.Nat.{ℕ, zero, suc, _+_, _-_, _≤_, _<_}
 use native.Mathlib.Omega.{arith}
-use native.Mathlib.Numerals.{add-one}
 use native.Mathlib.Nat.{add-assoc, add-zero}
 use lib.Dec.{ltb}
 use lib.IntN.{ℤ, pos, negsuc}
-use lib.ListN.{length, getD, drop, length-drop, drop-of-length-le}
-use lib.Seq.{drop-cons}
+use lib.ListN.{length, getD, drop, length-drop}
 use borrow.Author.Tests.{ltb-true, ltb-false, lt-ltb, le-ltb}
 use Rattle.fault.specs.declared.Fault.{Fault}
 use Rattle.fault.specs.declared.Fault.the-variants.{ListEndsEarly, CountOutOfRange, CoordinateOutOfRange}
 use Rattle.word_list.specs.Words.{Point, Group, pointsOf, pointsIn, Read, ok, fault, andThen, beyond}
 use Rattle.word_list.specs.Words.{readCount, readCoordinate, readPoint, readPoints, readContour, readContours, readGroup, readGroups, readWords}
-use Rattle.words.specs.Scan.{countedOf, checkedOf, scanOf}
+use Rattle.word_reader.specs.Reader.{countedOf, checkedOf}
+use Rattle.words.specs.Scan.{scanOf}
 use Rattle.word_list.specs.Words.{groupPoints}
-use Rattle.words.specs.declared.Counted.{Counted}
-use Rattle.words.specs.declared.Counted.the-variants as counted
-use Rattle.words.specs.declared.Checked.{Checked}
-use Rattle.words.specs.declared.Checked.the-variants as checked
+use Rattle.word_reader.specs.declared.Counted.{Counted}
+use Rattle.word_reader.specs.declared.Counted.the-variants as counted
+use Rattle.word_reader.specs.declared.Checked.{Checked}
+use Rattle.word_reader.specs.declared.Checked.the-variants as checked
 use Rattle.words.specs.declared.Scan.{Scan}
 use Rattle.words.specs.declared.Scan.the-variants as scan
-use Rattle.word_list.proofs.Ends.{then-ok, cond-ok, Ended, ended-contour, ended-group, placed}
-use Rattle.word_list.proofs.Few.{points-length, contour-few, contours-few, group-few}
+use Rattle.word_reader.proofs.Reader.{at-end, at-word}
+use Rattle.word_list.proofs.Ends.{Ended, ended-contour, ended-group, placed}
+use Rattle.word_list.proofs.Few.{contour-few, group-few}
 
 -- ---- what an answer says
 pub counted-count : (r : Read ℕ) (n : ℕ) → countedOf r ≡ counted.Count n → (rest : List ℤ) × (r ≡ ok n rest)
@@ -59,13 +59,7 @@ module _ {A : Type 0} where
   scan-fault total points before (ok a rest) f e = let z : _≡_ {A = ℕ} 0 1 = cc in absurd (omega arith)
   scan-fault total points before (fault g) f e = cc
 
--- ---- the word at a place
-pub at-end : (ws : List ℤ) (at : ℕ) → length ws ≤ at → drop at ws ≡ []
-at-end ws at h = drop-of-length-le ws h
-
-pub at-word : (ws : List ℤ) (at : ℕ) → at < length ws → drop at ws ≡ getD ws at (pos 0) ∷ drop (at + 1) ws
-at-word ws at h = drop-cons ws at (pos 0) h ∙ ap (λ (k : ℕ). getD ws at (pos 0) ∷ drop k ws) (sym (add-one at))
-
+-- ---- the coordinate at a place
 pub coordinate-missing : (ws : List ℤ) (at : ℕ) → length ws ≤ at → checked.Refused ListEndsEarly ≡ checkedOf (readCoordinate (drop at ws))
 unfolding readCoordinate
 coordinate-missing ws at h = rw (at-end ws at h) refl

@@ -1,3 +1,2 @@
--- Scan: how the code hands on what is read (word_list/specs/Words.antt). Reader: the word reader.
+-- Scan: how the code hands on what is read (word_list/specs/Words.antt).
 pub mod Scan
-pub mod Reader

@@ -4,21 +4,9 @@ use mathlib.Core.List.{List, []}
 use Prim.Native.Nat.{ℕ, _+_, _-_}
 use lib.IntN.{ℤ, pos}
 use lib.ListN.{length, drop}
-use Rattle.word_list.specs.Words.{Point, Group, pointsOf, Read, ok, fault, readOr, readPoints, readContours}
-use Rattle.words.specs.declared.Counted.{Counted}
-use Rattle.words.specs.declared.Counted.the-variants as counted
-use Rattle.words.specs.declared.Checked.{Checked}
-use Rattle.words.specs.declared.Checked.the-variants as checked
+use Rattle.word_list.specs.Words.{Point, Group, Read, ok, fault, readOr, readPoints, readContours}
 use Rattle.words.specs.declared.Scan.{Scan}
 use Rattle.words.specs.declared.Scan.the-variants as scan
-
-abbrev pub countedOf : Read ℕ → Counted
-countedOf (ok n rest) = counted.Count n
-countedOf (fault f) = counted.Refused f
-
-abbrev pub checkedOf : {A : Type 0} → Read A → Checked
-checkedOf (ok a rest) = checked.Good
-checkedOf (fault f) = checked.Refused f
 
 -- in a list of `total` words, behind `before` points; `points` counts those of what was read
 abbrev pub scanOf : {A : Type 0} → ℕ → (A → ℕ) → ℕ → Read A → Scan

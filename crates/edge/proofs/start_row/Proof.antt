@@ -1,6 +1,6 @@
 -- `edge::start_row` meets its contract. Assumes nothing.
 use mathlib.Core.Path.{ap, _∙_}
-use Rattle.float.specs.Whole.{columnOf}
+use Rattle.whole.specs.Whole.{columnOf}
 use borrow.Author.Needs.{needs}
 use Rattle.edge.proofs.start_row.Statement.{statement}
 use Rattle.edge.proofs.start_row.Tie as tie

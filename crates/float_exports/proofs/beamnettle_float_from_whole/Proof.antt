@@ -3,7 +3,7 @@ use Prim.Native.Nat.{_^_, min}
 use mathlib.Core.Path.{_≡_, ap, _∙_}
 use native.Mathlib.Omega.{arith}
 use borrow.Author.Needs.{needs}
-use Rattle.float.specs.Whole.{ofWhole}
+use Rattle.whole.specs.Whole.{ofWhole}
 use Rattle.float_exports.proofs.beamnettle_float_from_whole.Statement.{statement}
 use Rattle.float_exports.proofs.beamnettle_float_from_whole.Tie as tie
 

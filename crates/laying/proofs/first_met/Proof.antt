@@ -4,7 +4,7 @@ use borrow.Author.Needs.{sfits-of}
 use lib.IntN.{pos, natAbs}
 use mir.Syntax.{w32, w64}
 use mir.ValLaws.{toZ-ofZ}
-use Rattle.words.proofs.Sign.{not-negative, abs-fits}
+use Rattle.word_reader.proofs.Sign.{not-negative, abs-fits}
 use Rattle.laying.proofs.Offsets.{wider, turned, turned-small, start-left, start-right}
 use Rattle.laying.proofs.first_met.Statement.{statement}
 use Rattle.laying.proofs.first_met.Tie as tie

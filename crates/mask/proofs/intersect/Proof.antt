@@ -1,94 +1,87 @@
 -- `mask::intersect` meets its contract. Assumes nothing.
-use mathlib.Core.Path.{refl, sym, ap, _∙_}
-use mathlib.Core.Logic.{inl, inr}
+use mathlib.Core.Path.{_≡_, refl, sym, ap, _∙_, subst}
 use mathlib.Core.List.{List, _++_}
 use Prim.Native.Nat.{ℕ}
 use native.Mathlib.Omega.{arith}
-use lib.ListN.{length, drop}
-use Rattle.fault.specs.declared.Fault.the-variants.{MaskTooLarge, BufferTooShort}
+use lib.ListN.{length, take, drop}
 use Rattle.cells.specs.Cells.{cellsOf}
-use Rattle.cells.proofs.Sizes.{size-allowed, size-large, cells-fit, cells-long}
-use Rattle.laying.specs.Laying.{laying}
+use Rattle.cells.proofs.Sizes.{allowed-small, cells-fit, cells-long}
+use Rattle.laying.specs.Laying.{Laying, laying}
 use Rattle.laying.proofs.Laid.{laying-front}
-use Rattle.mask.specs.Calls.{lent}
-use Rattle.mask.specs.Laws.{CanLay, either-too-large, either-short, laid, not-laid}
-use Rattle.mask.proofs.LayCauses.{can-lay, cannot-lay}
+use Rattle.mask.specs.Calls.{Lent, lent, outcomeNumber, layAnswer}
+use Rattle.mask.specs.Laws.{CanLay, LayNumber}
+use Rattle.mask.specs.Steps.{outcomeOf}
+use Rattle.mask.specs.declared.Outcome.{Outcome}
+use Rattle.mask.specs.declared.Outcome.the-variants.{Done}
+use Rattle.mask.proofs.LayCauses.{laid-exactly-when}
+use Rattle.mask.proofs.Numbers.{numbers-exactly-when}
 use borrow.Author.Needs.{needs}
 use Rattle.mask.proofs.intersect.Statement.{statement}
 use Rattle.mask.proofs.intersect.Tie as tie
 
+-- the number of an answer
+told : (l : Laying) (lent : Lent) (other : ℕ) {o : Outcome} → layAnswer l lent other ≡ o → LayNumber l lent other (outcomeNumber o)
+told l lent other e = subst (λ (o : Outcome). LayNumber l lent other (outcomeNumber o)) e (numbers-exactly-when .lay-only l lent other)
+
 returns : tie.Need-returns
 returns c =
-    let args = c .before .before .before .before .args in
-    let l = laying (args .size) (args .other-size) (args .offset) in
-    let cause = either-too-large (inl (size-large (args .size) (sym (c .before .is-too-large .ensures) ∙ c .if1 .taken))) in
-    (sym (cannot-lay l (lent (args .mask .now)) (length (args .other .now)) MaskTooLarge cause), (refl, not-laid cause))
-
-returns-2 : tie.Need-returns-2
-returns-2 c =
     let args = c .before .before .before .before .before .before .args in
     let l = laying (args .size) (args .other-size) (args .offset) in
-    let cause = either-too-large (inr (size-large (args .other-size) (sym (c .before .is-too-large2 .ensures) ∙ c .if2 .taken))) in
-    (sym (cannot-lay l (lent (args .mask .now)) (length (args .other .now)) MaskTooLarge cause), (refl, not-laid cause))
+    let answer = c .before .before .before .lay-check .ensures .tells (args .offset) ∙ ap outcomeOf (c .before .fault .given .1) in
+    (sym answer, (refl, told l (lent (args .mask .now)) (length (args .other .now)) answer))
+
+-- where the check refuses nothing
+module _ (t : tie.After-enum-told) where
+  abbrev start : tie.Start
+  start = t .before .before .before .before .before
+
+  abbrev l : Laying
+  l = laying (start .args .size) (start .args .other-size) (start .args .offset)
+
+  abbrev mask : List ℕ
+  mask = start .args .mask .now
+
+  abbrev other : List ℕ
+  other = start .args .other .now
+
+  answered : layAnswer l (lent mask) (length other) ≡ Done
+  answered = t .before .before .lay-check .ensures .tells (start .args .offset) ∙ ap outcomeOf (t .enum-told .given .1)
+
+  can : CanLay l (lent mask) (length other)
+  can = laid-exactly-when .done-only l (lent mask) (length other) answered
+
+  long : cellsOf (l .size) ≡ length (take (cellsOf (l .size)) mask)
+  long = cells-long (l .size) mask (can .cells)
 
 mul-cells : tie.Need-mul-cells
 mul-cells c =
-    let l = cells-fit (c .before .before .before .before .before .before .before .args .size) (sym (c .before .before .before .before .is-too-large .ensures) ∙ c .before .before .before .if1 .left) in
+    let size = l (c .before) .size in
+    let h = cells-fit size (allowed-small size (can (c .before) .size-allowed)) in
     omega arith
 
-returns-3 : tie.Need-returns-3
-returns-3 c =
-    let args = c .before .before .before .before .before .before .before .before .args in
-    let l = laying (args .size) (args .other-size) (args .offset) in
-    let s = size-allowed (args .size) (sym (c .before .before .before .before .before .is-too-large .ensures) ∙ c .before .before .before .before .if1 .left) in
-    let o = size-allowed (args .other-size) (sym (c .before .before .before .is-too-large2 .ensures) ∙ c .before .before .if2 .left) in
-    let cause = either-short s o (inl (c .if3 .taken)) in
-    (sym (cannot-lay l (lent (args .mask .now)) (length (args .other .now)) BufferTooShort cause), (refl, not-laid cause))
-
-mul-if4 : tie.Need-mul-if4
-mul-if4 c =
-    let args = c .before .before .before .before .before .before .before .before .before .args in
-    let l = cells-fit (args .other-size) (sym (c .before .before .before .before .is-too-large2 .ensures) ∙ c .before .before .before .if2 .left) in
-    omega arith
-
-returns-4 : tie.Need-returns-4
-returns-4 c =
-    let args = c .before .before .before .before .before .before .before .before .before .before .args in
-    let l = laying (args .size) (args .other-size) (args .offset) in
-    let s = size-allowed (args .size) (sym (c .before .before .before .before .before .before .before .is-too-large .ensures) ∙ c .before .before .before .before .before .before .if1 .left) in
-    let o = size-allowed (args .other-size) (sym (c .before .before .before .before .before .is-too-large2 .ensures) ∙ c .before .before .before .before .if2 .left) in
-    let cause = either-short s o (inr (c .if4 .taken)) in
-    (sym (cannot-lay l (lent (args .mask .now)) (length (args .other .now)) BufferTooShort cause), (refl, not-laid cause))
+slice-relend-prefix-lay : tie.Need-slice-relend-prefix-lay
+slice-relend-prefix-lay c = can (c .before) .cells
 
 slice-aggregate-lay : tie.Need-slice-aggregate-lay
-slice-aggregate-lay c =
-    let args = c .before .before .before .before .before .before .before .before .before .before .before .args in
-    cells-long (args .size) (args .mask .now) (c .before .before .before .if3 .left)
+slice-aggregate-lay c = long (c .before .before)
 
 lay-requires : tie.Need-lay-requires
 lay-requires c κs =
-    let args = c .before .before .before .before .before .before .before .before .before .before .before .args in
-    let told = c .before .before .before .before .before in
-    let s = size-allowed (args .size) (sym (told .before .before .before .is-too-large .ensures) ∙ told .before .before .if1 .left) in
-    let o = size-allowed (args .other-size) (sym (told .before .is-too-large2 .ensures) ∙ told .if2 .left) in
-    ((s, cells-long (args .size) (args .mask .now) (c .before .before .before .if3 .left)), (o, c .before .if4 .left))
+    let t = c .before .before in ((can t .size-allowed, long t), (can t .other-allowed, can t .other-cells))
 
-returns-5 : tie.Need-returns-5
-returns-5 c =
-    let args = c .before .before .before .before .before .before .before .before .before .before .before .before .before .before .args in
-    let l = laying (args .size) (args .other-size) (args .offset) in
-    let told = c .before .before .before .before .before .before .before .before in
-    let s = size-allowed (args .size) (sym (told .before .before .before .is-too-large .ensures) ∙ told .before .before .if1 .left) in
-    let o = size-allowed (args .other-size) (sym (told .before .is-too-large2 .ensures) ∙ told .if2 .left) in
-    let can : CanLay l (lent (args .mask .now)) (length (args .other .now)) =
-    record { size-allowed = s; other-allowed = o; cells = c .before .before .before .before .before .before .if3 .left; other-cells = c .before .before .before .before .if4 .left } in
-    let cells = c .before .before .lay .ensures ∙ laying-front l (args .mask .now) (args .other .now) in (
-      sym (can-lay l (lent (args .mask .now)) (length (args .other .now)) can),
-      (ap (λ (front : List ℕ). front ++ drop (cellsOf (args .size)) (args .mask .now)) cells, laid can),
+returns-2 : tie.Need-returns-2
+returns-2 c =
+    let t = c .before .before .before .before .before in
+    let cells = c .before .before .lay .ensures ∙ laying-front (l t) (mask t) (other t) in (
+      sym (answered t),
+      (
+        ap (λ (front : List ℕ). front ++ drop (cellsOf (l t .size)) (mask t)) cells,
+        told (l t) (lent (mask t)) (length (other t)) (answered t),
+      ),
     )
 
 pub intersect-spec : {M : Type 1} → statement M
 intersect-spec =
     tie.close
-    (tie.spec (λ c κs. search needs) returns (λ c κs. search needs) returns-2 mul-cells returns-3 mul-if4
-    returns-4 (λ c. search needs) slice-aggregate-lay lay-requires (λ c. search needs) returns-5)
+    (tie.spec (λ c κs. search needs) (λ c. search needs) returns (λ c. search needs) mul-cells slice-relend-prefix-lay
+    slice-aggregate-lay lay-requires (λ c. search needs) returns-2)

@@ -5,7 +5,7 @@ use Rattle.overlap.proofs.leaves_two.Tie as tie
 
 returns : tie.Need-returns
 unfolding leavesTwoOf
-returns c = rw (← c .before .before .before .square .ensures, c .before .before .if1 .taken, ← c .before .sides .ensures) (c .are .ensures)
+returns c = rw (← c .before .before .before .square .ensures, c .before .before .if1 .taken, ← c .before .placed .ensures) (c .are .ensures)
 
 returns-2 : tie.Need-returns-2
 unfolding leavesTwoOf

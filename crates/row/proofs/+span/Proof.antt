@@ -10,8 +10,8 @@ use Rattle.row.proofs.Clip.{outside, Locals, span-past, span-before, sp
 use Rattle.row.proofs.span.Reads as span
 use Rattle.row.proofs.span.Kinds as span-kinds
 use Rattle.row.proofs.+span.Lts-span as span-lts
-use Rattle.float.proofs.from_whole.Reads as from-whole
-use Rattle.row.proofs.add.Reads as add
+use Rattle.whole.proofs.from_whole.Reads as from-whole
+use Rattle.accumulation.proofs.add.Reads as add
 use Rattle.row.proofs.inside.Reads as inside
 use Rattle.row.proofs.left_end.Reads as left-end
 use Rattle.row.proofs.right_end.Reads as right-end

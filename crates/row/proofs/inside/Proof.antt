@@ -1,7 +1,7 @@
 -- `row::inside` meets its contract: its two columns are below 8,192. Assumes nothing.
 use native.Mathlib.Omega.{arith}
 use lib.Ieee.Casts.{toUnsigned-lt}
-use Rattle.row.proofs.Adding.{ceil-le, inside-single, inside-across}
+use Rattle.row.proofs.Within.{ceil-le, inside-single, inside-across}
 use borrow.Author.Needs.{needs}
 use Rattle.row.proofs.inside.Statement.{statement}
 use Rattle.row.proofs.inside.Tie as tie

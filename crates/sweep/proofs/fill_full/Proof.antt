@@ -3,7 +3,7 @@ use Prim.Native.Nat.{_-_}
 use native.Mathlib.Omega.{arith}
 use lib.ListN.{length}
 use Rattle.sweep.specs.Sweeping.{plusOf}
-use Rattle.row.proofs.Mapped.{MappedTo, map-start, map-turn, map-done}
+use Rattle.accumulation.proofs.Mapped.{MappedTo, map-start, map-turn, map-done}
 use borrow.Author.Needs.{needs}
 use Rattle.sweep.proofs.fill_full.Statement.{statement}
 use Rattle.sweep.proofs.fill_full.Tie as tie

@@ -3,7 +3,7 @@ use mathlib.Core.Path.{ap, _∙_}
 use Prim.Native.Nat.{ℕ, _-_}
 use native.Mathlib.Omega.{arith}
 use lib.Count.{trailing-le}
-use Rattle.row.specs.Marks.{bitOf}
+use Rattle.accumulation.specs.Marks.{bitOf}
 use Rattle.sweep.proofs.Lowest.{zero-bit, rest-lt, positive}
 use Rattle.sweep.proofs.Words.{InWord, word-start, word-done, word-past, word-blank, word-turn}
 use borrow.Author.Needs.{needs}

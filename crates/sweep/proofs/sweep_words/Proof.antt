@@ -3,7 +3,7 @@ use mathlib.Core.Path.{refl, ap, _∙_}
 use Prim.Native.Nat.{ℕ}
 use native.Mathlib.Omega.{arith}
 use lib.Count.{trailingZeros, trailing-le}
-use Rattle.row.specs.Marks.{bitOf}
+use Rattle.accumulation.specs.Marks.{bitOf}
 use Rattle.sweep.proofs.Lowest.{zero-bit, rest-lt, positive}
 use Rattle.sweep.proofs.Words.{back, InRow, row-start, row-done, row-past, row-word, row-turn}
 use borrow.Author.Needs.{needs}

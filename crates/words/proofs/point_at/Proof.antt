@@ -3,7 +3,7 @@ use borrow.Author.Needs.{needs}
 use mathlib.Core.Path.{sym, _∙_}
 use Prim.Native.Nat.{_+_}
 use lib.ListN.{drop}
-use Rattle.words.proofs.Reader.{coordinate-of}
+use Rattle.word_reader.proofs.Reader.{coordinate-of}
 use Rattle.words.proofs.Steps.{point-first, point-second}
 use Rattle.words.proofs.point_at.Statement.{statement}
 use Rattle.words.proofs.point_at.Tie as tie

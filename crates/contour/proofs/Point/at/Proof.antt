@@ -6,7 +6,7 @@ use Prim.Native.Nat.{_+_}
 use lib.IntN.{pos}
 use lib.ListN.{getD}
 use Rattle.word_list.specs.Words.{beyond}
-use Rattle.words.proofs.Reader.{word-here, word-there}
+use Rattle.word_reader.proofs.Reader.{word-here, word-there}
 use Rattle.contour.proofs.Point.at.Statement.{statement}
 use Rattle.contour.proofs.Point.at.Tie as tie
 

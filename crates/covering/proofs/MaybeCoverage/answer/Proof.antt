@@ -1,0 +1,14 @@
+-- `covering::MaybeCoverage::answer` meets its contract. Assumes nothing.
+use borrow.Author.Needs.{needs}
+use Rattle.covering.proofs.MaybeCoverage.answer.Statement.{statement}
+use Rattle.covering.proofs.MaybeCoverage.answer.Tie as tie
+
+returns : tie.Need-returns
+returns c = rw (c .enum-told .given .1)
+
+returns-2 : tie.Need-returns-2
+returns-2 c = rw (c .before .self .given .1)
+
+pub answer-spec : {M : Type 1} → statement M
+answer-spec =
+    tie.close (tie.spec (λ c. search needs) (λ c. search needs) returns returns-2)

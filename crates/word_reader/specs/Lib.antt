@@ -1,0 +1,2 @@
+-- Reader: the word reader, and what is read of one word.
+pub mod Reader
