@@ -10,25 +10,26 @@
  * else that is lent. Nothing is kept after a call returns and there is no other state, so calls may run
  * at the same time in several threads where none writes what another is lent.
  *
- * Where fewer floats are lent than a box, frame, coverage or answer takes, the number is 4, before any
- * other cause. More may be lent: what lies past them is neither read nor changed. On every number but 0
- * all lent memory is left as it was.
+ * Where fewer floats are lent than a box, frame, coverage, bounds or answer takes, the number is 4, before
+ * any other cause. More may be lent: what lies past them is neither read nor changed. Only 0, 36 and 37 write
+ * anything, what their functions say: on every other number all lent memory is left as it was.
  *
  * Floats. Calls run with the processor's default settings: rounding to nearest, subnormal numbers kept
  * (no flush to zero, no denormals are zero), no floating-point exception trapped. Where these are changed,
  * nothing is promised of an answer.
  * A done answer may hold NaN or infinities, and numbers of a size over 2^20: the next call that is lent
- * them as a box or a frame refuses them with 1.
+ * them as a box or a frame refuses them with 1. A box that trimmed_scissor or rect_fill answers may have a
+ * half extent below 0: a call that takes it refuses it with 2, or with 1 where a number in it is over 2^20.
  *
  * A frame a b c d x y takes a point (px, py) to (a * px + c * py + x, b * px + d * py + y). A box
  * reaches from minus its half extents to its half extents along the axes, with elliptical corners of its
  * radii (0: square); its frame takes it to where it lies. A fringe is a width there, such as that of a
  * pixel: over it an edge fades. Distances are in fringe widths, below 0 inside.
  *
- * Small frames. Coverage and touch take the box's frame back, parallel and the intersections the first
- * box's. Where its determinant a * d - b * c lies between -0.000001 and 0.000001, the identity is taken for
- * what takes it back, as femtovg does, and nothing is refused: a box drawn to less than a thousandth of its
- * size gets an answer about another box.
+ * Small frames. Coverage and touch take the box's frame back; parallel, the intersections, with_scissor and
+ * rect_fill the first box's; trimmed_scissor the scissor's. Where its determinant a * d - b * c lies between
+ * -0.000001 and 0.000001, the identity is taken for what takes it back, as femtovg does, and nothing is
+ * refused: a box drawn to less than a thousandth of its size gets an answer about another box.
  */
 #ifndef BEAMNETTLE_H
 #define BEAMNETTLE_H
@@ -57,12 +58,15 @@ enum {
     BEAMNETTLE_TOO_MANY_VERBS = 11,         /* over 256 verbs */
     BEAMNETTLE_TOO_MANY_BOXES = 12,         /* over 256 boxes in a touch list */
     /* done, and: */
-    BEAMNETTLE_NONE = 32, /* there is no box, or no coverage */
+    BEAMNETTLE_NONE = 32, /* there is no box, no coverage, or no bounds */
     BEAMNETTLE_YES = 33,
     BEAMNETTLE_NO = 34,
     /* beamnettle_touch alone: */
     BEAMNETTLE_NO_FRAME = 35,
-    BEAMNETTLE_FIRST_PLACE = 256 /* the box at place k, counted from 0, is 256 + k */
+    BEAMNETTLE_FIRST_PLACE = 256, /* the box at place k, counted from 0, is 256 + k */
+    /* beamnettle_rect_fill alone, and a box is written: */
+    BEAMNETTLE_SHARED = 36,
+    BEAMNETTLE_COVERED = 37
 };
 
 /* How many floats there are in a box (frame a b c d x y, half extents, radii), a frame, a coverage
@@ -151,6 +155,51 @@ uint8_t beamnettle_parallel(const float *one, size_t one_length, const float *tw
 
 /* Whether a coverage, of any floats, holds all of a box, within half a fringe width. Returns 33 or 34, or 1 or 2. */
 uint8_t beamnettle_contains(const float *coverage, size_t coverage_length, const float *box, size_t box_length);
+
+/* A clip and a scissor as one box, within 1/64 of a fringe width, that draws under both carry in place of the
+ * two. Writes a box to out and its coverage to coverage: both are lent, and both are asked for before all
+ * else. Returns 0; 32 where the two make no such box (as beamnettle_intersection, with 1/64 for a half), or it
+ * has no coverage; or 1 or 2 for the clip, for the scissor, then 1 for the fringe. */
+uint8_t beamnettle_with_scissor(const float *clip, size_t clip_length, const float *scissor, size_t scissor_length,
+                                float fringe, float *out, size_t out_length, float *coverage,
+                                size_t coverage_length);
+
+/* What of a scissor still clips a draw under the clip too: each side of the scissor that the clip lies within,
+ * to 1/64 of a fringe width, is moved out to two fringe widths past the clip. Where the scissor's corners are
+ * round, or its sides are not parallel to the clip's, the scissor as it is. Where the two lie apart, a half
+ * extent of the box may be below 0. Writes a box to out.
+ * Returns 0; 32 where the clip lies within all four sides; or 1 or 2 for the clip, for the scissor, then 1 for
+ * the fringe. */
+uint8_t beamnettle_trimmed_scissor(const float *clip, size_t clip_length, const float *scissor,
+                                   size_t scissor_length, float fringe, float *out, size_t out_length);
+
+/* What an upright rect filled under an upright clip is drawn as in its place. Under a clip with square corners:
+ * 36, the rect that the two share, within 1/64 of a fringe width, antialiased by its own fringe, with no clip.
+ * Under one with round corners that the fill covers whole: 37, a rect a fringe width around the clip, with no
+ * fringe of its own, under the clip's coverage; at a fringe below 0 its half extents may be below 0. Of the
+ * fill it is not asked that it is upright or a rect (beamnettle_upright_rect gives such). Writes a box to out.
+ * Returns 36 or 37; 32 where the clip is not upright, where they share no box that has a coverage, or where the
+ * fill does not cover the clip; or 1 or 2 for the clip, for the fill, then 1 for the fringe. */
+uint8_t beamnettle_rect_fill(const float *clip, size_t clip_length, const float *fill, size_t fill_length,
+                             float fringe, float *out, size_t out_length);
+
+/* The upright rect that an outline fills under a frame, if it is one: the box of beamnettle_fit through the
+ * frame, with sides along the axes. Writes a box to out.
+ * Returns 0; 32 where the outline is no box, where the box does not lie along the axes, or where there are more
+ * than 8 verbs; or what beamnettle_fit refuses, in its order, then 1 for the frame. */
+uint8_t beamnettle_upright_rect(const uint8_t *verbs, size_t verbs_length, const float *positions,
+                                size_t positions_length, const float *frame, size_t frame_length, float *out,
+                                size_t out_length);
+
+/* The bounds outside which a coverage is zero: its box out to where the ramps of its sides end, half a fringe
+ * width past them. The coverage may hold any floats; with half extents below 0 the least may be over the most.
+ * Writes four floats to out. Returns 0, or 32 where the determinant of the linear part is 0: the coverage is
+ * one everywhere. */
+uint8_t beamnettle_reach(const float *coverage, size_t coverage_length, float *out, size_t out_length);
+
+/* Whether a clip, as it was given, holds all of a rectangle, within 1/64 of a fringe width: off a round corner
+ * the coverage's strays are allowed besides. Coverage and bounds may hold any floats. Returns 33 or 34. */
+uint8_t beamnettle_holds(const float *coverage, size_t coverage_length, const float *bounds, size_t bounds_length);
 
 /* The place of some box that a point touches: one whose coverage exists and whose distance at the point is
  * at most 0. At most 256 boxes are taken.

@@ -1,5 +1,5 @@
 //! A list's answers, by femtovg. Of a bad line it says what is wrong, as the program `calls` does.
-use femtovg::calls::{self, Drawing};
+use femtovg::calls::{self, Both, Box10, Drawing, Fill};
 use std::str::SplitWhitespace;
 
 #[derive(Default)]
@@ -27,6 +27,8 @@ const TOO_MANY_BOXES: Bad = "a touch list's line takes at most 257 boxes";
 
 /// The largest number that the program reads.
 pub const LARGEST: usize = 2_684_354_559;
+/// The most floats that it reads from a line.
+const MOST_FLOATS: usize = 2573;
 
 type Fields<'a> = SplitWhitespace<'a>;
 
@@ -93,12 +95,27 @@ fn yes(holds: bool) -> String {
     if holds { "yes" } else { "no" }.to_string()
 }
 
+fn both(answer: Option<Both>) -> String {
+    answer.map_or("nobox".to_string(), |(shape, coverage)| {
+        named("both", &[&shape[..], &coverage].concat())
+    })
+}
+
+fn filled(answer: Option<(Fill, Box10)>) -> String {
+    match answer {
+        Some((Fill::Shared, shape)) => named("shared", &shape),
+        Some((Fill::Covered, shape)) => named("covered", &shape),
+        None => "nobox".to_string(),
+    }
+}
+
 fn verb(f: &mut Fields) -> Result<u8, Bad> {
     let field = f.next().ok_or(MISSING)?;
     field.parse().map_err(|_| NOT_A_BYTE)
 }
 
-fn fit(f: &mut Fields) -> Result<String, Bad> {
+/// An outline's verbs, and its positions together with so many floats behind them, to the line's end.
+fn outline(f: &mut Fields, behind: usize) -> Result<(Vec<u8>, Vec<f32>), Bad> {
     let count = number(f)?;
     if count > 512 {
         return Err(TOO_MANY_VERBS);
@@ -106,15 +123,27 @@ fn fit(f: &mut Fields) -> Result<String, Bad> {
     let verbs = (0..count)
         .map(|_| verb(f))
         .collect::<Result<Vec<u8>, _>>()?;
-    let count = number(f)?;
-    if count > 2573 {
+    let count = number(f)? + behind;
+    if count > MOST_FLOATS {
         return Err(TOO_MANY_FLOATS);
     }
-    let positions = (0..count)
+    let floats = (0..count)
         .map(|_| float(f))
         .collect::<Result<Vec<f32>, _>>()?;
     ended(f)?;
+    Ok((verbs, floats))
+}
+
+fn fit(f: &mut Fields) -> Result<String, Bad> {
+    let (verbs, positions) = outline(f, 0)?;
     Ok(answered(calls::fit(&verbs, &positions), maybe("box")))
+}
+
+fn upright_rect(f: &mut Fields) -> Result<String, Bad> {
+    let (verbs, floats) = outline(f, 6)?;
+    let (positions, frame) = floats.split_last_chunk().expect("six floats");
+    let answer = calls::upright_rect(&verbs, positions, *frame);
+    Ok(answered(answer, maybe("box")))
 }
 
 /// The first place is answered: document 01 leaves free which, and the program answers the first.
@@ -134,16 +163,25 @@ fn touch(f: &mut Fields) -> Result<String, Bad> {
     }))
 }
 
-/// The answer to a call on boxes; its fields are read whole before it.
+/// The answer to a call on two boxes and a fringe.
+fn on_pair<T>(
+    f: &mut Fields,
+    call: impl Fn(Box10, Box10, f32) -> Result<T, u8>,
+    text: impl Fn(T) -> String,
+) -> Result<String, Bad> {
+    Ok(answered(call(floats(f)?, floats(f)?, float(f)?), text))
+}
+
+/// The answer to a call on boxes or a coverage; its fields are read whole before it.
 fn on_boxes(name: &str, f: &mut Fields) -> Result<String, Bad> {
     let answer = match name {
         "transformed" => answered(calls::transformed(floats(f)?, floats(f)?), |b| {
             named("box", &b)
         }),
-        "intersection" => {
-            let (one, two, fringe) = (floats(f)?, floats(f)?, float(f)?);
-            answered(calls::intersection(one, two, fringe), maybe("box"))
-        }
+        "intersection" => on_pair(f, calls::intersection, maybe("box"))?,
+        "with_scissor" => on_pair(f, calls::with_scissor, both)?,
+        "trimmed_scissor" => on_pair(f, calls::trimmed_scissor, maybe("box"))?,
+        "rect_fill" => on_pair(f, calls::rect_fill, filled)?,
         "rect_intersection" => {
             let (one, two) = (floats(f)?, floats(f)?);
             answered(calls::rect_intersection(one, two), maybe("box"))
@@ -155,6 +193,9 @@ fn on_boxes(name: &str, f: &mut Fields) -> Result<String, Bad> {
         "distance" => answered(calls::distance(floats(f)?, floats(f)?), |d| {
             named("float", &[d])
         }),
+        "reach" => calls::reach(floats(f)?)
+            .map_or("everywhere".to_string(), |bounds| named("bounds", &bounds)),
+        "holds" => yes(calls::holds(floats(f)?, floats(f)?)),
         _ => return Err(UNKNOWN_CALL),
     };
     ended(f)?;
@@ -244,6 +285,7 @@ impl State {
             "draw" => self.draw(f),
             "lay" => self.lay(f),
             "fit" => fit(f),
+            "upright_rect" => upright_rect(f),
             "touch" => touch(f),
             name => on_boxes(name, f),
         }

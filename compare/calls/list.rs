@@ -2,13 +2,15 @@
 //! inside it, known corners, and random calls from a fixed seed.
 use crate::{
     chains::{chains, layings, offsets},
+    holds::holds,
+    scissors::{bad_scissors, scissors},
     touches::touches,
 };
 use std::fmt::Write;
 
-const LARGEST: f32 = 1_048_576.0;
-const UNIT: [f32; 6] = [1.0, 0.0, 0.0, 1.0, 0.0, 0.0];
-const VERBS: [u8; 5] = [0, 1, 1, 1, 5];
+pub const LARGEST: f32 = 1_048_576.0;
+pub const UNIT: [f32; 6] = [1.0, 0.0, 0.0, 1.0, 0.0, 0.0];
+pub const VERBS: [u8; 5] = [0, 1, 1, 1, 5];
 
 pub struct Random(pub u64);
 
@@ -36,7 +38,7 @@ impl Random {
         low + (high - low) * self.below(1 << 24) as f32 / (1 << 24) as f32
     }
 
-    fn frame(&mut self) -> [f32; 6] {
+    pub fn frame(&mut self) -> [f32; 6] {
         let (x, y) = (self.float(-40.0, 40.0), self.float(-40.0, 40.0));
         let (s, t) = (self.float(1.0, 3.0), self.float(1.0, 3.0));
         match self.below(6) {
@@ -57,7 +59,7 @@ impl Random {
     }
 
     /// A box that often lies along another.
-    fn beside(&mut self, b: &[f32; 10]) -> [f32; 10] {
+    pub fn beside(&mut self, b: &[f32; 10]) -> [f32; 10] {
         let mut other = self.boxed();
         if self.below(4) > 0 {
             other[..4].copy_from_slice(&b[..4]);
@@ -67,7 +69,7 @@ impl Random {
         other
     }
 
-    fn coverage(&mut self) -> [f32; 11] {
+    pub fn coverage(&mut self) -> [f32; 11] {
         let b = self.boxed();
         let mut c = [0.0; 11];
         c[..10].copy_from_slice(&b);
@@ -116,19 +118,27 @@ impl List {
         self.0.push('\n');
     }
 
+    /// A call, with every NaN written as one.
     pub fn call(&mut self, name: &str, floats: &[f32]) {
+        let bits = |x: &f32| if x.is_nan() { f32::NAN } else { *x }.to_bits();
         let text = floats.iter().fold(name.to_string(), |text, x| {
-            format!("{text} {:08x}", x.to_bits())
+            format!("{text} {:08x}", bits(x))
         });
         self.line(&text);
     }
 
-    fn fit(&mut self, verbs: &[u8], floats: &[f32]) {
-        let mut text = format!("fit {}", verbs.len());
+    /// A call on an outline, with other floats behind its positions.
+    pub fn outline(&mut self, name: &str, verbs: &[u8], positions: &[f32], behind: &[f32]) {
+        let mut text = format!("{name} {}", verbs.len());
         verbs
             .iter()
             .for_each(|v| write!(text, " {v}").expect("text"));
-        self.call(&format!("{text} {}", floats.len()), floats);
+        let floats = [positions, behind].concat();
+        self.call(&format!("{text} {}", positions.len()), &floats);
+    }
+
+    fn fit(&mut self, verbs: &[u8], floats: &[f32]) {
+        self.outline("fit", verbs, floats, &[]);
     }
 
     /// A drawing into a fresh buffer, with scratch that is too short by so much, and the buffer.
@@ -181,6 +191,12 @@ pub fn up(x: f32) -> f32 {
     f32::from_bits(x.to_bits() + 1)
 }
 
+/// The floats with another at one place.
+pub fn with<const N: usize>(mut floats: [f32; N], at: usize, x: f32) -> [f32; N] {
+    floats[at] = x;
+    floats
+}
+
 fn square(side: i32) -> Vec<i32> {
     vec![4, 0, 0, side, 0, side, 256, 0, 256]
 }
@@ -197,7 +213,7 @@ pub fn upright(x: f32, y: f32, extent: [f32; 2], radii: [f32; 2]) -> [f32; 10] {
     ]
 }
 
-fn square_cornered(mut b: [f32; 10]) -> [f32; 10] {
+pub fn square_cornered(mut b: [f32; 10]) -> [f32; 10] {
     b[8..].fill(0.0);
     b
 }
@@ -246,11 +262,13 @@ fn examples(l: &mut List) {
     l.call("rect_intersection", &[&one[..], &two].concat());
 }
 
-/// Each call with one of its numbers replaced, at every place.
-fn numbers(l: &mut List) {
+/// A call of each kind on boxes and coverages.
+fn calls_on_boxes() -> Vec<(&'static str, Vec<f32>)> {
     let b = upright(0.0, 0.0, [2.0, 1.0], [0.5, 0.25]);
     let c = [&b[..], &[0.0]].concat();
-    let calls = [
+    let around = upright(0.5, 0.25, [3.0, 2.0], [0.0; 2]);
+    let across = upright(1.5, 0.25, [3.0, 0.5], [0.0; 2]);
+    vec![
         ("transformed", [&b[..], &UNIT].concat()),
         ("intersection", [&b[..], &b, &[1.0]].concat()),
         ("rect_intersection", [&b[..], &b].concat()),
@@ -260,9 +278,18 @@ fn numbers(l: &mut List) {
         ("bounds", b.to_vec()),
         ("distance", [&c[..], &[1.0, 1.0]].concat()),
         ("touch 1", [&b[..], &[1.0, 1.0, 1.0]].concat()),
-    ];
+        ("with_scissor", [&b[..], &around, &[1.0]].concat()),
+        ("trimmed_scissor", [&b[..], &across, &[1.0]].concat()),
+        ("rect_fill", [&b[..], &around, &[1.0]].concat()),
+        ("reach", c.clone()),
+        ("holds", [&c[..], &[-1.0, -0.5, 1.5, 0.75]].concat()),
+    ]
+}
+
+/// Each call with one of its numbers replaced, at every place.
+fn numbers(l: &mut List) {
     l.line("# numbers 1 and 2, at every place of every call on boxes");
-    for (name, floats) in calls {
+    for (name, floats) in calls_on_boxes() {
         for at in 0..floats.len() {
             for x in [
                 LARGEST,
@@ -596,6 +623,7 @@ fn bad_lines(l: &mut List) {
     ] {
         l.line(line);
     }
+    bad_scissors(l);
     l.line("show run");
     l.line("show next");
 }
@@ -604,7 +632,7 @@ pub fn list() -> String {
     let mut list = List::default();
     for part in [
         examples, numbers, improper, masks, layings, offsets, outlines, corners, random, chains,
-        touches, bad_lines,
+        touches, scissors, holds, bad_lines,
     ] {
         part(&mut list);
     }

@@ -2,7 +2,9 @@
 //! by femtovg, behind document 01's refusals; `calls count` says how many calls of each kind a list has.
 mod answer;
 mod chains;
+mod holds;
 mod list;
+mod scissors;
 mod touches;
 
 use std::{

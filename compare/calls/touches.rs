@@ -1,10 +1,10 @@
 //! Touch lists. The program answers the first place that is right, and so does the list.
-use crate::list::{up, upright, List, Random};
+use crate::list::{up, upright, with, List, Random};
 
 type Box10 = [f32; 10];
 
 impl List {
-    fn touch(&mut self, boxes: &[Box10], fringe: f32, point: [f32; 2]) {
+    pub fn touch(&mut self, boxes: &[Box10], fringe: f32, point: [f32; 2]) {
         let floats = [&boxes.concat()[..], &[fringe], &point].concat();
         self.call(&format!("touch {}", boxes.len()), &floats);
     }
@@ -14,11 +14,6 @@ impl List {
 fn row(n: usize) -> Vec<Box10> {
     let one = |at| upright(8.0 * at as f32, 0.0, [2.0, 1.0], [0.0; 2]);
     (0..n).map(one).collect()
-}
-
-fn with(mut one: Box10, at: usize, x: f32) -> Box10 {
-    one[at] = x;
-    one
 }
 
 /// Places, and which boxes a point touches.

@@ -1,12 +1,13 @@
-//! Document 01's calls, over femtovg. A box is ten floats (frame, half extents, radii), a coverage
-//! eleven (linear part by rows, offset, half extents, radii, strays).
+//! The calls of documents 01 and 02, over femtovg. A box is ten floats (frame, half extents, radii),
+//! a coverage eleven (linear part by rows, offset, half extents, radii, strays), bounds four (least
+//! x, least y, most x, most y).
 use crate::{
     clip::{
         coverage::{self, Coverage},
         mask::MaskKey,
-        shape::{ClipCoverage, RoundedBox},
+        shape::{ClipCoverage, RectFill, RoundedBox},
     },
-    geometry::Transform2D,
+    geometry::{Bounds, Transform2D},
     path::Solidity,
     Path,
 };
@@ -14,6 +15,7 @@ use crate::{
 pub type Box10 = [f32; 10];
 pub type Frame = [f32; 6];
 pub type Coverage11 = [f32; 11];
+pub type Bounds4 = [f32; 4];
 
 /// A number of document 01's table.
 pub type Refused = u8;
@@ -54,6 +56,12 @@ fn check_box(b: &Box10) -> Result<(), Refused> {
     Ok(())
 }
 
+fn check_pair(one: &Box10, two: &Box10, fringe: f32) -> Result<(), Refused> {
+    check_box(one)?;
+    check_box(two)?;
+    check(fringe)
+}
+
 pub(crate) fn boxed([a, b, c, d, x, y, width, height, rx, ry]: Box10) -> RoundedBox {
     RoundedBox {
         frame: Transform2D([a, b, c, d, x, y]),
@@ -86,6 +94,36 @@ pub(crate) fn covering(c: &Coverage11) -> ClipCoverage {
         radii: [c[8], c[9]],
         strays: c[10],
     }
+}
+
+fn covered(c: ClipCoverage) -> Coverage11 {
+    let [a, b, d, e] = c.linear;
+    [
+        a,
+        b,
+        d,
+        e,
+        c.offset[0],
+        c.offset[1],
+        c.extent[0],
+        c.extent[1],
+        c.radii[0],
+        c.radii[1],
+        c.strays,
+    ]
+}
+
+pub(crate) fn bounding([minx, miny, maxx, maxy]: Bounds4) -> Bounds {
+    Bounds {
+        minx,
+        miny,
+        maxx,
+        maxy,
+    }
+}
+
+fn bounded(bounds: Bounds) -> Bounds4 {
+    [bounds.minx, bounds.miny, bounds.maxx, bounds.maxy]
 }
 
 // ---- masks
@@ -231,28 +269,11 @@ pub fn transformed(b: Box10, frame: Frame) -> Result<Box10, Refused> {
 pub fn coverage(b: Box10, fringe: f32) -> Result<Option<Coverage11>, Refused> {
     check_box(&b)?;
     check(fringe)?;
-    Ok(boxed(b).coverage(fringe).map(|c| {
-        let [a, b, d, e] = c.linear;
-        [
-            a,
-            b,
-            d,
-            e,
-            c.offset[0],
-            c.offset[1],
-            c.extent[0],
-            c.extent[1],
-            c.radii[0],
-            c.radii[1],
-            c.strays,
-        ]
-    }))
+    Ok(boxed(b).coverage(fringe).map(covered))
 }
 
 pub fn intersection(one: Box10, two: Box10, fringe: f32) -> Result<Option<Box10>, Refused> {
-    check_box(&one)?;
-    check_box(&two)?;
-    check(fringe)?;
+    check_pair(&one, &two, fringe)?;
     Ok(boxed(one).intersection(&boxed(two), fringe).map(floats))
 }
 
@@ -268,10 +289,9 @@ pub fn parallel(one: Box10, two: Box10) -> Result<bool, Refused> {
     Ok(boxed(one).parallel(&boxed(two)))
 }
 
-pub fn bounds(b: Box10) -> Result<[f32; 4], Refused> {
+pub fn bounds(b: Box10) -> Result<Bounds4, Refused> {
     check_box(&b)?;
-    let bounds = boxed(b).bounds();
-    Ok([bounds.minx, bounds.miny, bounds.maxx, bounds.maxy])
+    Ok(bounded(boxed(b).bounds()))
 }
 
 pub fn distance(c: Coverage11, point: [f32; 2]) -> Result<f32, Refused> {
@@ -297,4 +317,56 @@ pub fn touch(boxes: &[Box10], fringe: f32, point: [f32; 2]) -> Result<Vec<usize>
         coverage.is_some_and(|coverage| coverage.distance(point) <= 0.0)
     };
     Ok((0..boxes.len()).filter(touches).collect())
+}
+
+// ---- scissors and fills
+
+/// The box of a clip and a scissor, and its coverage.
+pub type Both = (Box10, Coverage11);
+
+/// What a rect that is filled under a clip is drawn as.
+#[derive(Copy, Clone, Debug, PartialEq, Eq)]
+pub enum Fill {
+    Shared,
+    Covered,
+}
+
+pub fn with_scissor(clip: Box10, scissor: Box10, fringe: f32) -> Result<Option<Both>, Refused> {
+    check_pair(&clip, &scissor, fringe)?;
+    let both = boxed(clip).with_scissor(&boxed(scissor), fringe);
+    Ok(both.map(|(shape, coverage)| (floats(shape), covered(coverage))))
+}
+
+pub fn trimmed_scissor(clip: Box10, scissor: Box10, fringe: f32) -> Result<Option<Box10>, Refused> {
+    check_pair(&clip, &scissor, fringe)?;
+    let trimmed = boxed(clip).trimmed_scissor(&boxed(scissor), fringe);
+    Ok(trimmed.map(floats))
+}
+
+pub fn rect_fill(clip: Box10, fill: Box10, fringe: f32) -> Result<Option<(Fill, Box10)>, Refused> {
+    check_pair(&clip, &fill, fringe)?;
+    let drawn = boxed(clip).rect_fill(&boxed(fill), fringe);
+    Ok(drawn.map(|drawn| match drawn {
+        RectFill::Shared(shape) => (Fill::Shared, floats(shape)),
+        RectFill::Covered(shape) => (Fill::Covered, floats(shape)),
+    }))
+}
+
+pub fn upright_rect(
+    verbs: &[u8],
+    positions: &[f32],
+    frame: Frame,
+) -> Result<Option<Box10>, Refused> {
+    check_outline(verbs, positions)?;
+    check_all(&frame)?;
+    let path = path(verbs, positions);
+    Ok(RoundedBox::upright_rect(&path, &Transform2D(frame)).map(floats))
+}
+
+pub fn reach(c: Coverage11) -> Option<Bounds4> {
+    covering(&c).reach().map(bounded)
+}
+
+pub fn holds(c: Coverage11, bounds: Bounds4) -> bool {
+    covering(&c).holds(&bounding(bounds))
 }

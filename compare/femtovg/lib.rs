@@ -1,5 +1,5 @@
 //! The Rust that is compared: femtovg's files as `prepare` leaves them, what they import, and
-//! document 01's calls over them, with its refusals in front.
+//! the calls of documents 01 and 02 over them, with their refusals in front.
 #![allow(dead_code, unexpected_cfgs, unused_imports)]
 
 pub mod calls;

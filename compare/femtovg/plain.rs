@@ -1,6 +1,6 @@
 //! femtovg's own calls, without document 01's refusals, for timing.
 use crate::{
-    calls::{boxed, covering, path, Box10, Coverage11, Frame},
+    calls::{bounding, boxed, covering, path, Bounds4, Box10, Coverage11, Frame},
     clip::{
         coverage::Coverage,
         mask::MaskKey,
@@ -65,6 +65,18 @@ impl Shape {
     pub fn bounds(&self) {
         black_box(black_box(&self.0).bounds());
     }
+
+    pub fn with_scissor(&self, scissor: &Shape, fringe: f32) {
+        black_box(black_box(&self.0).with_scissor(&scissor.0, fringe));
+    }
+
+    pub fn trimmed_scissor(&self, scissor: &Shape, fringe: f32) {
+        black_box(black_box(&self.0).trimmed_scissor(&scissor.0, fringe));
+    }
+
+    pub fn rect_fill(&self, fill: &Shape, fringe: f32) {
+        black_box(black_box(&self.0).rect_fill(&fill.0, fringe));
+    }
 }
 
 impl Covering {
@@ -79,6 +91,14 @@ impl Covering {
     pub fn contains(&self, shape: &Shape) {
         black_box(black_box(&self.0).contains(&shape.0));
     }
+
+    pub fn reach(&self) {
+        black_box(black_box(&self.0).reach());
+    }
+
+    pub fn holds(&self, bounds: Bounds4) {
+        black_box(black_box(&self.0).holds(&bounding(bounds)));
+    }
 }
 
 impl Outline {
@@ -88,5 +108,10 @@ impl Outline {
 
     pub fn fit(&self) {
         black_box(RoundedBox::fit(black_box(&self.0)));
+    }
+
+    pub fn upright_rect(&self, frame: Frame) {
+        let frame = Transform2D(frame);
+        black_box(RoundedBox::upright_rect(black_box(&self.0), &frame));
     }
 }

@@ -1,7 +1,7 @@
 /* Calls every function of include/beamnettle.h from C, with different numbers in every place, and checks
  * the number, all that is written, and that what lies past it is not changed. What is expected is document
- * 01's examples, or is reckoned in whole numbers and halves beside the call. Then touch, on structs, is held
- * to coverage and distance, on arrays. The exit status is 1 where a check fails. */
+ * 01's examples, or is reckoned in whole numbers, halves and quarters beside the call. Then touch, on structs, is
+ * held to coverage and distance, on arrays. The exit status is 1 where a check fails. */
 #include "beamnettle.h"
 
 #include <math.h>
@@ -20,35 +20,55 @@ static void check(int good, int line, const char *what) {
 
 #define CHECK(fact) check(fact, __LINE__, #fact)
 
-/* ---- what is lent for an answer: rubbish, two floats more than the longest takes */
+/* ---- what is lent for an answer: rubbish, in each buffer at least two floats more than an answer takes */
 
 enum { BOX = BEAMNETTLE_BOX, FRAME = BEAMNETTLE_FRAME, COVERAGE = BEAMNETTLE_COVERAGE, BOUNDS = BEAMNETTLE_BOUNDS };
 enum { LENT = COVERAGE + 2 };
 
-static float out[LENT];
+static float out[LENT], also[LENT];
 
 static float rubbish(size_t i) { return 1000.0f + (float)i; }
 
 static void lend(void) {
-    for (size_t i = 0; i < LENT; i++) out[i] = rubbish(i);
+    for (size_t i = 0; i < LENT; i++) {
+        out[i] = rubbish(i);
+        also[i] = rubbish(LENT + i);
+    }
 }
 
-/* Whether these floats were written, bit by bit, and nothing else. */
-static int wrote(const float *expected, size_t n) {
+/* Whether a buffer holds these floats, bit by bit, and behind them the rubbish that it held. */
+static int holds(const float *buffer, size_t first, const float *expected, size_t n) {
     for (size_t i = 0; i < LENT; i++) {
-        float now = i < n ? expected[i] : rubbish(i);
-        if (memcmp(&out[i], &now, sizeof now) != 0) return 0;
+        float now = i < n ? expected[i] : rubbish(first + i);
+        if (memcmp(&buffer[i], &now, sizeof now) != 0) return 0;
     }
     return 1;
 }
 
-/* A call that is done and writes these floats to out, and one that returns another number and writes none. */
-#define WRITES(call, ...)                                                 \
+/* Whether these floats were written to out, and nothing else. */
+static int wrote(const float *expected, size_t n) { return holds(out, 0, expected, n) && holds(also, LENT, NULL, 0); }
+
+/* Whether a box was written to out, its coverage to the other buffer, and nothing else. */
+static int wrote_both(const float *expected) {
+    return holds(out, 0, expected, BOX) && holds(also, LENT, expected + BOX, COVERAGE);
+}
+
+/* A call that returns a number and writes these floats to out, one that is done and writes them, one that is
+ * done and writes a box and a coverage, and one that returns another number and writes none. */
+#define ANSWERS(number, call, ...)                                        \
     do {                                                                  \
         const float expected[] = {__VA_ARGS__};                           \
         lend();                                                           \
-        CHECK((call) == BEAMNETTLE_DONE);                                 \
+        CHECK((call) == (number));                                        \
         CHECK(wrote(expected, sizeof expected / sizeof *expected));       \
+    } while (0)
+#define WRITES(call, ...) ANSWERS(BEAMNETTLE_DONE, call, __VA_ARGS__)
+#define WRITES_BOTH(call, ...)                                            \
+    do {                                                                  \
+        const float expected[BOX + COVERAGE] = {__VA_ARGS__};             \
+        lend();                                                           \
+        CHECK((call) == BEAMNETTLE_DONE);                                 \
+        CHECK(wrote_both(expected));                                      \
     } while (0)
 #define RETURNS(number, call)         \
     do {                              \
@@ -247,6 +267,157 @@ static void measuring(void) {
     CHECK(beamnettle_parallel(INFINITE, BOX, IMPROPER, BOX) == BEAMNETTLE_NUMBER_OUT_OF_RANGE);
 }
 
+/* ---- scissors and fills */
+
+/* AROUND holds TURNED, which lies from (-14, 2) to (26, 14), whole; LEFT lies from (-3, -1) to (5, 5), RIGHT
+ * from (-2, 2) to (8, 6). */
+static const float AROUND[] = {1, 0, 0, 1, 6, 8, 30, 20, 0, 0};
+static const float LEFT[] = {1, 0, 0, 1, 1, 2, 4, 3, 0, 0}, RIGHT[] = {1, 0, 0, 1, 3, 4, 5, 2, 0, 0};
+
+/* The number for a clip and a scissor at a fringe, with so many floats lent of each, for the box and the coverage. */
+static uint8_t with(const float *clip, const float *scissor, float fringe, size_t one, size_t two, size_t box,
+                    size_t coverage) {
+    return beamnettle_with_scissor(clip, one, scissor, two, fringe, out, box, also, coverage);
+}
+
+static void scissoring(void) {
+    /* a box that the other holds whole: as it is where it is the clip, along the clip's axes where it is the scissor */
+    WRITES_BOTH(with(TURNED, AROUND, 0.5f, BOX, BOX, BOX, COVERAGE), 0, 2, -4, 0, 6, 8, 3, 5, 1, 2,
+                0, 2, -2, 0, -16, 12, 12, 40, 4, 16, 0);
+    WRITES_BOTH(with(AROUND, TURNED, 0.5f, LENT, BOX, LENT, LENT), 1, 0, 0, 1, 6, 8, 4 * 5, 2 * 3, 4 * 2, 2 * 1,
+                2, -0.0f, -0.0f, 2, -12, -16, 40, 12, 16, 4, 0);
+    /* from (-2, 2) to (5, 5) */
+    WRITES_BOTH(with(LEFT, RIGHT, 0.5f, BOX, BOX, BOX, COVERAGE), 1, 0, 0, 1, 1.5f, 3.5f, 3.5f, 1.5f, 0, 0,
+                2, -0.0f, -0.0f, 2, -3, -7, 7, 3, 0, 0, 0);
+    /* no coverage; two boxes that make none within a 64th of a fringe; two that lie apart */
+    const float round[] = {1, 0, 0, 1, 0, 0, 8, 8, 2, 2}, sharp[] = {1, 0, 0, 1, 0, 0, 7.75f, 7.75f, 0, 0};
+    const float there[] = {1, 0, 0, 1, 50, 0, 1, 1, 0, 0};
+    RETURNS(BEAMNETTLE_NONE, with(LEFT, RIGHT, 0, BOX, BOX, BOX, COVERAGE));
+    RETURNS(BEAMNETTLE_NONE, with(LEFT, RIGHT, 4, BOX, BOX, BOX, COVERAGE));
+    RETURNS(BEAMNETTLE_NONE, with(round, sharp, 1, BOX, BOX, BOX, COVERAGE));
+    RETURNS(BEAMNETTLE_NONE, with(LEFT, there, 1, BOX, BOX, BOX, COVERAGE));
+    RETURNS(BEAMNETTLE_BUFFER_TOO_SHORT, with(IMPROPER, RIGHT, 1, BOX - 1, BOX, BOX, COVERAGE));
+    RETURNS(BEAMNETTLE_BUFFER_TOO_SHORT, with(IMPROPER, RIGHT, 1, BOX, BOX - 1, BOX, COVERAGE));
+    RETURNS(BEAMNETTLE_BUFFER_TOO_SHORT, with(IMPROPER, RIGHT, 1, BOX, BOX, BOX - 1, COVERAGE));
+    RETURNS(BEAMNETTLE_BUFFER_TOO_SHORT, with(IMPROPER, RIGHT, 1, BOX, BOX, BOX, COVERAGE - 1));
+    RETURNS(BEAMNETTLE_BUFFER_TOO_SHORT, with(LEFT, RIGHT, 1, BOX, BOX, COVERAGE, BOX));
+    RETURNS(BEAMNETTLE_IMPROPER_BOX, with(IMPROPER, INFINITE, INFINITY, BOX, BOX, BOX, COVERAGE));
+    RETURNS(BEAMNETTLE_NUMBER_OUT_OF_RANGE, with(INFINITE, IMPROPER, 1, BOX, BOX, BOX, COVERAGE));
+    RETURNS(BEAMNETTLE_IMPROPER_BOX, with(LEFT, IMPROPER, INFINITY, BOX, BOX, BOX, COVERAGE));
+    RETURNS(BEAMNETTLE_NUMBER_OUT_OF_RANGE, with(LEFT, RIGHT, INFINITY, BOX, BOX, BOX, COVERAGE));
+}
+
+static void trimming(void) {
+    /* from (16, -2) to (24, 8), and a scissor from (8, -3) to (22, 15): its side at 22 cuts, the others move to two
+     * fringes past the clip's */
+    const float clip[] = {1, 0, 0, 1, 20, 3, 4, 5, 1, 2}, scissor[] = {1, 0, 0, 1, 15, 6, 7, 9, 0, 0};
+    WRITES(beamnettle_trimmed_scissor(clip, BOX, scissor, BOX, 0.5f, out, BOX), 1, 0, 0, 1, 18.5f, 3, 3.5f, 6, 0, 0);
+    /* a scissor from (-14, 2) to (26, 14) around from (-8, 0) to (12, 18): two sides move, to -9 and 13 */
+    const float wide[] = {1, 0, 0, 1, 2, 9, 10, 9, 0, 0}, turned[] = {0, 2, -4, 0, 6, 8, 3, 5, 0, 0};
+    WRITES(beamnettle_trimmed_scissor(wide, BOX, turned, BOX, 0.5f, out, BOX), 0, 2, -4, 0, 2, 8, 3, 11 / 4.0f, 0, 0);
+    /* as it is where its corners are round; none where no side cuts */
+    WRITES(beamnettle_trimmed_scissor(clip, BOX, TURNED, BOX, 1, out, BOX), 0, 2, -4, 0, 6, 8, 3, 5, 1, 2);
+    RETURNS(BEAMNETTLE_NONE, beamnettle_trimmed_scissor(TURNED, BOX, AROUND, BOX, 0.5f, out, BOX));
+    /* apart: a half extent below 0, which the next call refuses */
+    const float here[] = {1, 0, 0, 1, 0, 0, 1, 1, 0, 0}, there[] = {1, 0, 0, 1, 10, 0, 1, 1, 0, 0};
+    const float trim[] = {1, 0, 0, 1, 4, 0, -3, 3, 0, 0};
+    WRITES(beamnettle_trimmed_scissor(there, BOX, here, BOX, 1, out, BOX), 1, 0, 0, 1, 4, 0, -3, 3, 0, 0);
+    RETURNS(BEAMNETTLE_IMPROPER_BOX, beamnettle_coverage(trim, BOX, 1, out, COVERAGE));
+    RETURNS(BEAMNETTLE_BUFFER_TOO_SHORT, beamnettle_trimmed_scissor(clip, BOX - 1, scissor, BOX, 1, out, BOX));
+    RETURNS(BEAMNETTLE_BUFFER_TOO_SHORT, beamnettle_trimmed_scissor(clip, BOX, scissor, BOX - 1, 1, out, BOX));
+    RETURNS(BEAMNETTLE_BUFFER_TOO_SHORT, beamnettle_trimmed_scissor(clip, BOX, scissor, BOX, 1, out, BOX - 1));
+    RETURNS(BEAMNETTLE_IMPROPER_BOX, beamnettle_trimmed_scissor(IMPROPER, BOX, INFINITE, BOX, INFINITY, out, BOX));
+    RETURNS(BEAMNETTLE_NUMBER_OUT_OF_RANGE, beamnettle_trimmed_scissor(INFINITE, BOX, IMPROPER, BOX, 1, out, BOX));
+    RETURNS(BEAMNETTLE_IMPROPER_BOX, beamnettle_trimmed_scissor(clip, BOX, trim, BOX, INFINITY, out, BOX));
+    RETURNS(BEAMNETTLE_NUMBER_OUT_OF_RANGE, beamnettle_trimmed_scissor(clip, BOX, scissor, BOX, INFINITY, out, BOX));
+}
+
+static void filling(void) {
+    ANSWERS(BEAMNETTLE_SHARED, beamnettle_rect_fill(LEFT, BOX, RIGHT, BOX, 1, out, BOX), 1, 0, 0, 1, 1.5f, 3.5f, 3.5f,
+            1.5f, 0, 0);
+    /* a fringe of a half is 1/4 and 1/8 along TURNED */
+    ANSWERS(BEAMNETTLE_COVERED, beamnettle_rect_fill(TURNED, BOX, AROUND, BOX, 0.5f, out, BOX), 0, 2, -4, 0, 6, 8,
+            3.25f, 5.125f, 0, 0);
+    ANSWERS(BEAMNETTLE_COVERED, beamnettle_rect_fill(TURNED, BOX, AROUND, BOX, 0, out, BOX), 0, 2, -4, 0, 6, 8, 3, 5, 0,
+            0);
+    /* a round clip that the fill does not cover, a square one without a coverage, one that is not upright */
+    const float leaning[] = {1, 1, -1, 1, 0, 0, 1, 1, 0, 0};
+    RETURNS(BEAMNETTLE_NONE, beamnettle_rect_fill(TURNED, BOX, LEFT, BOX, 1, out, BOX));
+    RETURNS(BEAMNETTLE_NONE, beamnettle_rect_fill(LEFT, BOX, RIGHT, BOX, 0, out, BOX));
+    RETURNS(BEAMNETTLE_NONE, beamnettle_rect_fill(leaning, BOX, leaning, BOX, 0.5f, out, BOX));
+    RETURNS(BEAMNETTLE_BUFFER_TOO_SHORT, beamnettle_rect_fill(LEFT, BOX - 1, RIGHT, BOX, 1, out, BOX));
+    RETURNS(BEAMNETTLE_BUFFER_TOO_SHORT, beamnettle_rect_fill(LEFT, BOX, RIGHT, BOX - 1, 1, out, BOX));
+    RETURNS(BEAMNETTLE_BUFFER_TOO_SHORT, beamnettle_rect_fill(LEFT, BOX, RIGHT, BOX, 1, out, BOX - 1));
+    RETURNS(BEAMNETTLE_IMPROPER_BOX, beamnettle_rect_fill(IMPROPER, BOX, INFINITE, BOX, INFINITY, out, BOX));
+    RETURNS(BEAMNETTLE_NUMBER_OUT_OF_RANGE, beamnettle_rect_fill(INFINITE, BOX, IMPROPER, BOX, 1, out, BOX));
+    RETURNS(BEAMNETTLE_IMPROPER_BOX, beamnettle_rect_fill(LEFT, BOX, IMPROPER, BOX, INFINITY, out, BOX));
+    RETURNS(BEAMNETTLE_NUMBER_OUT_OF_RANGE, beamnettle_rect_fill(LEFT, BOX, RIGHT, BOX, INFINITY, out, BOX));
+}
+
+/* The number for an outline through a frame. */
+static uint8_t upright(const uint8_t *verbs, size_t n, const float *positions, size_t floats, const float *frame) {
+    return beamnettle_upright_rect(verbs, n, positions, floats, frame, FRAME, out, BOX);
+}
+
+static void filling_upright(void) {
+    /* the rectangle from (3, 5) to (9, 9), taken to (-3 py + 5, 2 px + 1); no ninth verb */
+    const uint8_t verbs[] = {0, 1, 1, 1, 5, 3, 4, 3, 3}, curve[] = {0, 2, 6}, unknown[] = {6, 2};
+    const float corners[] = {3, 5, 9, 5, 9, 9, 3, 9}, far[] = {3, 5, 9, 5, 9, 9, 3, 1048577};
+    const float quarter[] = {0, 2, -3, 0, 5, 1}, leaning[] = {1, 1, 0, 1, 0, 0}, endless[] = {0, 2, -3, 0, 5, INFINITY};
+    static const uint8_t many[257];
+    WRITES(upright(verbs, 5, corners, 8, quarter), 0, 2, -3, 0, -3 * 7 + 5, 2 * 6 + 1, 3, 2, 0, 0);
+    WRITES(upright(verbs, 8, corners, 8, quarter), 0, 2, -3, 0, -3 * 7 + 5, 2 * 6 + 1, 3, 2, 0, 0);
+    RETURNS(BEAMNETTLE_NONE, upright(verbs, 9, corners, 8, quarter));
+    RETURNS(BEAMNETTLE_NONE, upright(verbs, 5, corners, 8, leaning));
+    RETURNS(BEAMNETTLE_BUFFER_TOO_SHORT,
+            beamnettle_upright_rect(many, 257, corners, 8, quarter, FRAME - 1, out, BOX));
+    RETURNS(BEAMNETTLE_BUFFER_TOO_SHORT,
+            beamnettle_upright_rect(many, 257, corners, 8, quarter, FRAME, out, BOX - 1));
+    RETURNS(BEAMNETTLE_TOO_MANY_VERBS, upright(many, 257, corners, 8, endless));
+    RETURNS(BEAMNETTLE_CURVE_VERB, upright(curve, 3, corners, 8, endless));
+    RETURNS(BEAMNETTLE_UNKNOWN_VERB, upright(unknown, 2, corners, 8, endless));
+    RETURNS(BEAMNETTLE_POSITIONS_MISMATCH, upright(verbs, 9, corners, 7, endless));
+    RETURNS(BEAMNETTLE_NUMBER_OUT_OF_RANGE, upright(verbs, 5, far, 8, quarter));
+    RETURNS(BEAMNETTLE_NUMBER_OUT_OF_RANGE, upright(verbs, 9, corners, 8, endless));
+}
+
+static void reaching(void) {
+    /* (x, y) at (2 y + 4, x + 7): half a fringe out it is y from -12.25 to 8.25 and x from -107.5 to 93.5 */
+    const float coverage[] = {0, 2, 1, 0, 4, 7, 20, 100, 2, 5, 9}, everywhere[COVERAGE] = {0};
+    WRITES(beamnettle_reach(coverage, COVERAGE, out, BOUNDS), -107.5f, -12.25f, 93.5f, 8.25f);
+    RETURNS(BEAMNETTLE_NONE, beamnettle_reach(everywhere, COVERAGE, out, BOUNDS));
+    RETURNS(BEAMNETTLE_BUFFER_TOO_SHORT, beamnettle_reach(coverage, COVERAGE - 1, out, BOUNDS));
+    RETURNS(BEAMNETTLE_BUFFER_TOO_SHORT, beamnettle_reach(coverage, COVERAGE, out, BOUNDS - 1));
+}
+
+/* The number for a coverage and bounds. */
+static uint8_t held(const float *coverage, float least_x, float least_y, float most_x, float most_y) {
+    const float bounds[] = {least_x, least_y, most_x, most_y};
+    return beamnettle_holds(coverage, COVERAGE, bounds, BOUNDS);
+}
+
+static void holding(void) {
+    /* each holds x from -307 to 293 and y from -32 to 28, a 64th of a fringe more */
+    const float square[] = {0, 2, 1, 0, 4, 7, 60, 300, 0, 0, 9}, round[] = {0, 2, 1, 0, 4, 7, 60, 300, 2, 5, 0};
+    const float straying[] = {0, 2, 1, 0, 4, 7, 60, 300, 2, 5, 9}, bounds[] = {0, 0, 1, 1};
+    CHECK(held(square, -307, -32, 293, 28) == BEAMNETTLE_YES);
+    CHECK(held(square, -307 - 1 / 64.0f, -32 - 1 / 128.0f, 293 + 1 / 64.0f, 28 + 1 / 128.0f) == BEAMNETTLE_YES);
+    CHECK(held(square, -307 - 1 / 32.0f, -32, 293, 28) == BEAMNETTLE_NO);
+    CHECK(held(square, -307, -32 - 1 / 64.0f, 293, 28) == BEAMNETTLE_NO);
+    CHECK(held(square, -307, -32, 293 + 1 / 32.0f, 28) == BEAMNETTLE_NO);
+    CHECK(held(square, -307, -32, 293, 28 + 1 / 64.0f) == BEAMNETTLE_NO);
+    CHECK(held(square, 293, 28, -307, -32) == BEAMNETTLE_YES);
+    CHECK(held(square, 400, 40, -400, -40) == BEAMNETTLE_YES);
+    CHECK(held(square, -400, -40, 400, 40) == BEAMNETTLE_NO);
+    CHECK(held(square, NAN, -32, 293, INFINITY) == BEAMNETTLE_NO);
+    /* round corners hold what lies inside their centres, at (-302, -31) to (288, 27), and strays more */
+    CHECK(held(round, -302, -31, 288, 27) == BEAMNETTLE_YES);
+    CHECK(held(round, -307, -32, 293, 28) == BEAMNETTLE_NO);
+    CHECK(held(straying, -307, -32, 293, 28) == BEAMNETTLE_YES);
+    CHECK(beamnettle_holds(square, COVERAGE - 1, bounds, BOUNDS) == BEAMNETTLE_BUFFER_TOO_SHORT);
+    CHECK(beamnettle_holds(square, COVERAGE, bounds, BOUNDS - 1) == BEAMNETTLE_BUFFER_TOO_SHORT);
+}
+
 /* ---- the touch list */
 
 /* No proof speaks of where a struct's fields lie. So touch, which takes structs, is held to coverage and
@@ -326,6 +497,13 @@ static void nothing(void) {
     CHECK(beamnettle_parallel(NULL, 0, NULL, 0) == BEAMNETTLE_BUFFER_TOO_SHORT);
     CHECK(beamnettle_contains(NULL, 0, NULL, 0) == BEAMNETTLE_BUFFER_TOO_SHORT);
     CHECK(beamnettle_touch(NULL, 0, 1, 2, 3) == BEAMNETTLE_NO_FRAME);
+    CHECK(beamnettle_with_scissor(NULL, 0, NULL, 0, 1, NULL, 0, NULL, 0) == BEAMNETTLE_BUFFER_TOO_SHORT);
+    CHECK(beamnettle_trimmed_scissor(NULL, 0, NULL, 0, 1, NULL, 0) == BEAMNETTLE_BUFFER_TOO_SHORT);
+    CHECK(beamnettle_rect_fill(NULL, 0, NULL, 0, 1, NULL, 0) == BEAMNETTLE_BUFFER_TOO_SHORT);
+    RETURNS(BEAMNETTLE_NONE, beamnettle_upright_rect(NULL, 0, NULL, 0, TURNED, FRAME, out, BOX));
+    CHECK(beamnettle_upright_rect(NULL, 0, NULL, 0, NULL, 0, NULL, 0) == BEAMNETTLE_BUFFER_TOO_SHORT);
+    CHECK(beamnettle_reach(NULL, 0, NULL, 0) == BEAMNETTLE_BUFFER_TOO_SHORT);
+    CHECK(beamnettle_holds(NULL, 0, NULL, 0) == BEAMNETTLE_BUFFER_TOO_SHORT);
 }
 
 int main(void) {
@@ -336,6 +514,12 @@ int main(void) {
     sharing();
     covering();
     measuring();
+    scissoring();
+    trimming();
+    filling();
+    filling_upright();
+    reaching();
+    holding();
     touching();
     nothing();
     printf("%u checks of the header, %u failed\n", checks, failed);

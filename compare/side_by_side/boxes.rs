@@ -1,5 +1,5 @@
 //! Random and hostile calls on boxes.
-use crate::{call::Call, random::Random, touches};
+use crate::{call::Call, random::Random, scissors, touches};
 use femtovg::calls::{self, Box10, Coverage11, Frame};
 
 pub const LIMIT: f32 = 1_048_576.0;
@@ -19,7 +19,7 @@ pub fn number(random: &mut Random) -> f32 {
 }
 
 /// A number that no call refuses.
-fn tame(random: &mut Random) -> f32 {
+pub fn tame(random: &mut Random) -> f32 {
     loop {
         let x = number(random);
         if x.abs() <= LIMIT {
@@ -59,12 +59,12 @@ fn linear(random: &mut Random) -> [f32; 4] {
     }
 }
 
-fn frame(random: &mut Random) -> Frame {
+pub fn frame(random: &mut Random) -> Frame {
     let [a, b, c, d] = linear(random);
     [a, b, c, d, tame(random), tame(random)]
 }
 
-fn extent(random: &mut Random) -> f32 {
+pub fn extent(random: &mut Random) -> f32 {
     match random.below(12) {
         0 => random.pick(&[0.0, 0.4375, 0.5, 0.25, 1e-3, LIMIT]),
         1 => tame(random).abs(),
@@ -74,7 +74,7 @@ fn extent(random: &mut Random) -> f32 {
     }
 }
 
-fn radius(random: &mut Random, extent: f32) -> f32 {
+pub fn radius(random: &mut Random, extent: f32) -> f32 {
     match random.below(8) {
         0..=2 => 0.0,
         3 => extent,
@@ -99,7 +99,7 @@ pub fn shape(random: &mut Random) -> Box10 {
 }
 
 /// Another box, which often has the first one's sides or lies in it.
-fn beside(random: &mut Random, one: Box10) -> Box10 {
+pub fn beside(random: &mut Random, one: Box10) -> Box10 {
     let mut two = one;
     let [a, b, c, d, ..] = one;
     match random.below(8) {
@@ -211,7 +211,7 @@ fn outline(random: &mut Random) -> (Vec<u8>, Vec<f32>) {
     (verbs, corners.concat())
 }
 
-fn spoil(random: &mut Random, verbs: &mut Vec<u8>, positions: &mut Vec<f32>) {
+pub fn spoil(random: &mut Random, verbs: &mut Vec<u8>, positions: &mut Vec<f32>) {
     let at = random.below(verbs.len() + 1);
     match random.below(8) {
         0 => verbs.insert(at, random.pick(&[3, 4, 5])),
@@ -241,6 +241,9 @@ fn spoil(random: &mut Random, verbs: &mut Vec<u8>, positions: &mut Vec<f32>) {
 }
 
 pub fn call(random: &mut Random) -> Call {
+    if random.below(5) < 2 {
+        return scissors::call(random);
+    }
     let one = shape(random);
     match random.below(11) {
         0 | 1 => {

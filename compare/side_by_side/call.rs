@@ -1,10 +1,10 @@
 //! A call on boxes, put to both engines.
 use crate::{
-    lent::{changed, same_bits, Lent},
+    lending::{answer, done, Floats, Lending},
     library,
     random::Random,
 };
-use femtovg::calls::{self, Box10, Coverage11, Frame, Refused};
+use femtovg::calls::{self, Bounds4, Box10, Coverage11, Fill, Frame};
 use std::fmt;
 
 pub enum Call {
@@ -49,72 +49,52 @@ pub enum Call {
         fringe: f32,
         point: [f32; 2],
     },
-}
-
-/// The bits of a float; every NaN counts as one value.
-fn bits(x: f32) -> u32 {
-    if x.is_nan() {
-        0x7fc0_0000
-    } else {
-        x.to_bits()
-    }
-}
-
-struct Floats<'a>(&'a [f32]);
-
-impl fmt::Display for Floats<'_> {
-    fn fmt(&self, f: &mut fmt::Formatter) -> fmt::Result {
-        self.0
-            .iter()
-            .try_for_each(|x| write!(f, " {:08x}", bits(*x)))
-    }
+    WithScissor {
+        one: Box10,
+        two: Box10,
+        fringe: f32,
+    },
+    TrimmedScissor {
+        one: Box10,
+        two: Box10,
+        fringe: f32,
+    },
+    RectFill {
+        one: Box10,
+        two: Box10,
+        fringe: f32,
+    },
+    UprightRect {
+        verbs: Vec<u8>,
+        positions: Vec<f32>,
+        frame: Frame,
+    },
+    Reach {
+        coverage: Coverage11,
+    },
+    Holds {
+        coverage: Coverage11,
+        bounds: Bounds4,
+    },
 }
 
 /// The call as a line of a call list.
 impl fmt::Display for Call {
     fn fmt(&self, f: &mut fmt::Formatter) -> fmt::Result {
+        write!(f, "{}", self.kind())?;
         match self {
-            Call::Fit { verbs, positions } => {
-                write!(f, "fit {}", verbs.len())?;
-                verbs.iter().try_for_each(|verb| write!(f, " {verb}"))?;
-                write!(f, " {}{}", positions.len(), Floats(positions))
-            }
-            Call::Transformed { one, frame } => {
-                write!(f, "transformed{}{}", Floats(one), Floats(frame))
-            }
-            Call::Intersection { one, two, fringe } => {
-                write!(
-                    f,
-                    "intersection{}{}{}",
-                    Floats(one),
-                    Floats(two),
-                    Floats(&[*fringe])
-                )
-            }
-            Call::RectIntersection { one, two } => {
-                write!(f, "rect_intersection{}{}", Floats(one), Floats(two))
-            }
-            Call::Coverage { one, fringe } => {
-                write!(f, "coverage{}{}", Floats(one), Floats(&[*fringe]))
-            }
-            Call::Parallel { one, two } => write!(f, "parallel{}{}", Floats(one), Floats(two)),
-            Call::Contains { coverage, one } => {
-                write!(f, "contains{}{}", Floats(coverage), Floats(one))
-            }
-            Call::Bounds { one } => write!(f, "bounds{}", Floats(one)),
-            Call::Distance { coverage, point } => {
-                write!(f, "distance{}{}", Floats(coverage), Floats(point))
-            }
-            Call::Touch {
-                boxes,
-                fringe,
-                point: [x, y],
+            Call::Fit { verbs, positions }
+            | Call::UprightRect {
+                verbs, positions, ..
             } => {
-                write!(f, "touch {}", boxes.len())?;
-                boxes.iter().try_for_each(|b| write!(f, "{}", Floats(b)))?;
-                write!(f, "{}", Floats(&[*fringe, *x, *y]))
+                write!(f, " {}", verbs.len())?;
+                verbs.iter().try_for_each(|verb| write!(f, " {verb}"))?;
+                write!(f, " {}", positions.len())?;
             }
+            Call::Touch { boxes, .. } => write!(f, " {}", boxes.len())?,
+            _ => {}
         }
+        write!(f, "{}", Floats(&self.floats()))
     }
 }
 
@@ -131,195 +111,192 @@ impl Call {
             Call::Bounds { .. } => "bounds",
             Call::Distance { .. } => "distance",
             Call::Touch { .. } => "touch",
+            Call::WithScissor { .. } => "with_scissor",
+            Call::TrimmedScissor { .. } => "trimmed_scissor",
+            Call::RectFill { .. } => "rect_fill",
+            Call::UprightRect { .. } => "upright_rect",
+            Call::Reach { .. } => "reach",
+            Call::Holds { .. } => "holds",
         }
     }
 
-    /// The answer of both engines, or how they differ.
-    pub fn compare(&self, random: &mut Random) -> Result<u8, String> {
-        let lending = Lending(random);
+    /// Its floats, in the order in which they stand in a line.
+    fn floats(&self) -> Vec<f32> {
         match self {
-            Call::Fit { verbs, positions } => {
-                let old = calls::fit(verbs, positions).map(listed);
-                lending.written(old, 10, [], |[], out| library::fit(verbs, positions, out))
+            Call::Fit { positions, .. } => positions.clone(),
+            Call::UprightRect {
+                positions, frame, ..
+            } => [&positions[..], frame].concat(),
+            Call::Transformed { one, frame } => [&one[..], frame].concat(),
+            Call::Intersection { one, two, fringe }
+            | Call::WithScissor { one, two, fringe }
+            | Call::TrimmedScissor { one, two, fringe }
+            | Call::RectFill { one, two, fringe } => [&one[..], two, &[*fringe]].concat(),
+            Call::RectIntersection { one, two } | Call::Parallel { one, two } => {
+                [&one[..], two].concat()
             }
-            Call::Transformed { one, frame } => {
-                let old = calls::transformed(*one, *frame).map(|shape| Some(shape.to_vec()));
-                lending.written(old, 10, [one, frame], |[one, frame], out| {
-                    library::transformed(one, frame, out)
-                })
-            }
-            Call::Intersection { one, two, fringe } => {
-                let old = calls::intersection(*one, *two, *fringe).map(listed);
-                lending.written(old, 10, [one, two], |[one, two], out| {
-                    library::intersection(one, two, *fringe, out)
-                })
-            }
-            Call::RectIntersection { one, two } => {
-                let old = calls::rect_intersection(*one, *two).map(listed);
-                lending.written(old, 10, [one, two], |[one, two], out| {
-                    library::rect_intersection(one, two, out)
-                })
-            }
-            Call::Coverage { one, fringe } => {
-                let old = calls::coverage(*one, *fringe).map(listed);
-                lending.written(old, 11, [one], |[one], out| {
-                    library::coverage(one, *fringe, out)
-                })
-            }
-            Call::Parallel { one, two } => {
-                let old = calls::parallel(*one, *two);
-                lending.tested(old, [one, two], |[one, two]| library::parallel(one, two))
-            }
-            Call::Contains { coverage, one } => {
-                let old = calls::contains(*coverage, *one);
-                lending.tested(old, [coverage, one], |[coverage, one]| {
-                    library::contains(coverage, one)
-                })
-            }
-            Call::Bounds { one } => {
-                let old = calls::bounds(*one).map(|bounds| Some(bounds.to_vec()));
-                lending.written(old, 4, [one], |[one], out| library::bounds(one, out))
-            }
-            Call::Distance { coverage, point } => {
-                let old = calls::distance(*coverage, *point).map(|distance| Some(vec![distance]));
-                lending.written(old, 1, [coverage], |[coverage], out| {
-                    library::distance(coverage, *point, out)
-                })
-            }
+            Call::Coverage { one, fringe } => [&one[..], &[*fringe]].concat(),
+            Call::Contains { coverage, one } => [&coverage[..], one].concat(),
+            Call::Bounds { one } => one.to_vec(),
+            Call::Distance { coverage, point } => [&coverage[..], point].concat(),
             Call::Touch {
                 boxes,
                 fringe,
                 point,
-            } => {
-                let old = calls::touch(boxes, *fringe, *point);
-                lending.touched(old, boxes, |boxes| library::touch(boxes, *fringe, *point))
+            } => [&boxes.concat()[..], &[*fringe], point].concat(),
+            Call::Reach { coverage } => coverage.to_vec(),
+            Call::Holds { coverage, bounds } => [&coverage[..], bounds].concat(),
+        }
+    }
+
+    /// The answer of both engines, or how they differ.
+    pub fn compare(&self, random: &mut Random) -> Compared {
+        let lending = Lending(random);
+        match self {
+            Call::Fit { verbs, positions } => fit(lending, verbs, positions),
+            Call::Transformed { one, frame } => transformed(lending, one, frame),
+            Call::Intersection { one, two, fringe } => intersection(lending, one, two, *fringe),
+            Call::RectIntersection { one, two } => rect_intersection(lending, one, two),
+            Call::Coverage { one, fringe } => coverage_of(lending, one, *fringe),
+            Call::Parallel { one, two } => parallel(lending, one, two),
+            Call::Contains { coverage, one } => contains(lending, coverage, one),
+            Call::Bounds { one } => bounds(lending, one),
+            Call::Distance { coverage, point } => distance(lending, coverage, *point),
+            Call::Touch {
+                boxes,
+                fringe,
+                point,
+            } => touch(lending, boxes, *fringe, *point),
+            Call::WithScissor { one, two, fringe } => with_scissor(lending, one, two, *fringe),
+            Call::TrimmedScissor { one, two, fringe } => {
+                trimmed_scissor(lending, one, two, *fringe)
             }
+            Call::RectFill { one, two, fringe } => rect_fill(lending, one, two, *fringe),
+            Call::UprightRect {
+                verbs,
+                positions,
+                frame,
+            } => upright_rect(lending, verbs, positions, frame),
+            Call::Reach { coverage } => reach(lending, coverage),
+            Call::Holds { coverage, bounds } => holds(lending, coverage, bounds),
         }
     }
 }
 
-fn listed<const N: usize>(answer: Option<[f32; N]>) -> Option<Vec<f32>> {
-    answer.map(|floats| floats.to_vec())
+/// The number that both engines answer, or how they differ.
+pub type Compared = Result<u8, String>;
+
+fn fit(lending: Lending, verbs: &[u8], positions: &[f32]) -> Compared {
+    let old = done(calls::fit(verbs, positions));
+    lending.written(old, [10], [], |[], [out]| {
+        library::fit(verbs, positions, out)
+    })
 }
 
-/// Lends floats to a box call: now and then too few, and number 4 is expected, or more than it takes.
-struct Lending<'a>(&'a mut Random);
-
-impl Lending<'_> {
-    fn rubbish(&mut self) -> f32 {
-        f32::from_bits(self.0.bits() as u32)
-    }
-
-    /// A box, frame or coverage as it is lent.
-    fn part(&mut self, floats: &[f32]) -> Lent<f32> {
-        let mut lent = floats.to_vec();
-        match self.0.below(40) {
-            0 => lent.truncate(self.0.below(floats.len())),
-            1..=3 => lent.extend((0..=self.0.below(9)).map(|_| self.rubbish())),
-            _ => {}
-        }
-        Lent::holding(&lent, || self.rubbish())
-    }
-
-    /// What is lent of each, and whether that is too little.
-    fn parts<const N: usize>(&mut self, floats: [&[f32]; N]) -> ([Lent<f32>; N], bool) {
-        let parts = floats.map(|floats| self.part(floats));
-        let pairs = parts.iter().zip(floats);
-        let short = pairs
-            .into_iter()
-            .any(|(part, floats)| part.lent().len() < floats.len());
-        (parts, short)
-    }
-
-    /// Compares a call that writes floats, of which there may be lent too few or more.
-    fn written<const N: usize>(
-        mut self,
-        old: Result<Option<Vec<f32>>, Refused>,
-        needed: usize,
-        floats: [&[f32]; N],
-        call: impl Fn([&[f32]; N], &mut [f32]) -> u8,
-    ) -> Result<u8, String> {
-        let (parts, short) = self.parts(floats);
-        let length = match self.0.below(16) {
-            0 => self.0.below(needed),
-            1..=3 => needed + self.0.below(9),
-            _ => needed,
-        };
-        let mut out = Lent::new(length, || self.rubbish());
-        let new = call(parts.each_ref().map(Lent::lent), out.lend());
-        let (number, floats) = match old {
-            _ if short || length < needed => (library::TOO_SHORT, vec![]),
-            Err(number) => (number, vec![]),
-            Ok(None) => (library::NONE, vec![]),
-            Ok(Some(floats)) => (library::DONE, floats),
-        };
-        expected(new, number, &parts)?;
-        if !out.kept(floats.len(), same_bits) {
-            return Err(changed());
-        }
-        let found = &out.lent()[..floats.len()];
-        let differs = |(new, old): (&f32, &f32)| bits(*new) != bits(*old);
-        if found.iter().zip(&floats).any(differs) {
-            let (found, floats) = (Floats(found), Floats(&floats));
-            return Err(format!("answer{found}, the Rust{floats}"));
-        }
-        Ok(number)
-    }
-
-    /// Compares a call that answers yes or no.
-    fn tested<const N: usize>(
-        mut self,
-        old: Result<bool, Refused>,
-        floats: [&[f32]; N],
-        call: impl Fn([&[f32]; N]) -> u8,
-    ) -> Result<u8, String> {
-        let (parts, short) = self.parts(floats);
-        let new = call(parts.each_ref().map(Lent::lent));
-        let number = match old {
-            _ if short => library::TOO_SHORT,
-            Err(number) => number,
-            Ok(true) => library::YES,
-            Ok(false) => library::NO,
-        };
-        expected(new, number, &parts)?;
-        Ok(number)
-    }
-
-    /// Compares a touch: any place that the Rust allows is right, and no frame where it allows none.
-    fn touched(
-        mut self,
-        old: Result<Vec<usize>, Refused>,
-        boxes: &[Box10],
-        call: impl Fn(&[Box10]) -> u32,
-    ) -> Result<u8, String> {
-        let boxes = Lent::holding(boxes, || [0; 10].map(|_| self.rubbish()));
-        let new = call(boxes.lent());
-        let same = |now: &Box10, before: &Box10| {
-            let mut pairs = now.iter().zip(before);
-            pairs.all(|(now, before)| same_bits(now, before))
-        };
-        if !boxes.kept(0, same) {
-            return Err(changed());
-        }
-        let named = |place: &usize| new == library::FIRST_PLACE + *place as u32;
-        match old {
-            Err(number) if new == u32::from(number) => Ok(number),
-            Ok(places) if places.iter().any(named) => Ok(library::DONE),
-            Ok(places) if places.is_empty() && new == u32::from(library::NO_FRAME) => {
-                Ok(library::NO_FRAME)
-            }
-            old => Err(format!("number {new}, the Rust {old:?}")),
-        }
-    }
+fn transformed(lending: Lending, one: &Box10, frame: &Frame) -> Compared {
+    let old = done(calls::transformed(*one, *frame).map(Some));
+    lending.written(old, [10], [one, frame], |[one, frame], [out]| {
+        library::transformed(one, frame, out)
+    })
 }
 
-/// Whether the number is the one expected, and what was lent to be read is as it was.
-fn expected(new: u8, number: u8, parts: &[Lent<f32>]) -> Result<(), String> {
-    if new != number {
-        return Err(format!("number {new}, expected {number}"));
-    }
-    if !parts.iter().all(|part| part.kept(0, same_bits)) {
-        return Err(changed());
-    }
-    Ok(())
+fn intersection(lending: Lending, one: &Box10, two: &Box10, fringe: f32) -> Compared {
+    let old = done(calls::intersection(*one, *two, fringe));
+    lending.written(old, [10], [one, two], |[one, two], [out]| {
+        library::intersection(one, two, fringe, out)
+    })
+}
+
+fn rect_intersection(lending: Lending, one: &Box10, two: &Box10) -> Compared {
+    let old = done(calls::rect_intersection(*one, *two));
+    lending.written(old, [10], [one, two], |[one, two], [out]| {
+        library::rect_intersection(one, two, out)
+    })
+}
+
+fn coverage_of(lending: Lending, one: &Box10, fringe: f32) -> Compared {
+    let old = done(calls::coverage(*one, fringe));
+    lending.written(old, [11], [one], |[one], [out]| {
+        library::coverage(one, fringe, out)
+    })
+}
+
+fn parallel(lending: Lending, one: &Box10, two: &Box10) -> Compared {
+    let old = calls::parallel(*one, *two);
+    lending.tested(old, [one, two], |[one, two]| library::parallel(one, two))
+}
+
+fn contains(lending: Lending, coverage: &Coverage11, one: &Box10) -> Compared {
+    let old = calls::contains(*coverage, *one);
+    lending.tested(old, [coverage, one], |[coverage, one]| {
+        library::contains(coverage, one)
+    })
+}
+
+fn bounds(lending: Lending, one: &Box10) -> Compared {
+    let old = done(calls::bounds(*one).map(Some));
+    lending.written(old, [4], [one], |[one], [out]| library::bounds(one, out))
+}
+
+fn distance(lending: Lending, coverage: &Coverage11, point: [f32; 2]) -> Compared {
+    let old = done(calls::distance(*coverage, point).map(|distance| Some([distance])));
+    lending.written(old, [1], [coverage], |[coverage], [out]| {
+        library::distance(coverage, point, out)
+    })
+}
+
+fn touch(lending: Lending, boxes: &[Box10], fringe: f32, point: [f32; 2]) -> Compared {
+    let old = calls::touch(boxes, fringe, point);
+    lending.touched(old, boxes, |boxes| library::touch(boxes, fringe, point))
+}
+
+fn with_scissor(lending: Lending, one: &Box10, two: &Box10, fringe: f32) -> Compared {
+    let old = answer(
+        calls::with_scissor(*one, *two, fringe),
+        |(shape, coverage)| (library::DONE, [shape.to_vec(), coverage.to_vec()]),
+    );
+    lending.written(old, [10, 11], [one, two], |[one, two], [out, coverage]| {
+        library::with_scissor(one, two, fringe, out, coverage)
+    })
+}
+
+fn trimmed_scissor(lending: Lending, one: &Box10, two: &Box10, fringe: f32) -> Compared {
+    let old = done(calls::trimmed_scissor(*one, *two, fringe));
+    lending.written(old, [10], [one, two], |[one, two], [out]| {
+        library::trimmed_scissor(one, two, fringe, out)
+    })
+}
+
+fn rect_fill(lending: Lending, one: &Box10, two: &Box10, fringe: f32) -> Compared {
+    let number = |fill| match fill {
+        Fill::Shared => library::SHARED,
+        Fill::Covered => library::COVERED,
+    };
+    let old = answer(calls::rect_fill(*one, *two, fringe), |(fill, shape)| {
+        (number(fill), [shape.to_vec()])
+    });
+    lending.written(old, [10], [one, two], |[one, two], [out]| {
+        library::rect_fill(one, two, fringe, out)
+    })
+}
+
+fn upright_rect(lending: Lending, verbs: &[u8], positions: &[f32], frame: &Frame) -> Compared {
+    let old = done(calls::upright_rect(verbs, positions, *frame));
+    lending.written(old, [10], [frame], |[frame], [out]| {
+        library::upright_rect(verbs, positions, frame, out)
+    })
+}
+
+fn reach(lending: Lending, coverage: &Coverage11) -> Compared {
+    let old = done(Ok(calls::reach(*coverage)));
+    lending.written(old, [4], [coverage], |[coverage], [out]| {
+        library::reach(coverage, out)
+    })
+}
+
+fn holds(lending: Lending, coverage: &Coverage11, bounds: &Bounds4) -> Compared {
+    let old = Ok(calls::holds(*coverage, *bounds));
+    lending.tested(old, [coverage, bounds], |[coverage, bounds]| {
+        library::holds(coverage, bounds)
+    })
 }

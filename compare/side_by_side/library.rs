@@ -6,6 +6,8 @@ pub const NONE: u8 = 32;
 pub const YES: u8 = 33;
 pub const NO: u8 = 34;
 pub const NO_FRAME: u8 = 35;
+pub const SHARED: u8 = 36;
+pub const COVERED: u8 = 37;
 /// The number of place 0 of a touch list.
 pub const FIRST_PLACE: u32 = 256;
 
@@ -109,6 +111,57 @@ mod c {
             x: f32,
             y: f32,
         ) -> u32;
+        pub fn beamnettle_with_scissor(
+            clip: *const f32,
+            clip_length: usize,
+            scissor: *const f32,
+            scissor_length: usize,
+            fringe: f32,
+            out: *mut f32,
+            out_length: usize,
+            coverage: *mut f32,
+            coverage_length: usize,
+        ) -> u8;
+        pub fn beamnettle_trimmed_scissor(
+            clip: *const f32,
+            clip_length: usize,
+            scissor: *const f32,
+            scissor_length: usize,
+            fringe: f32,
+            out: *mut f32,
+            out_length: usize,
+        ) -> u8;
+        pub fn beamnettle_rect_fill(
+            clip: *const f32,
+            clip_length: usize,
+            fill: *const f32,
+            fill_length: usize,
+            fringe: f32,
+            out: *mut f32,
+            out_length: usize,
+        ) -> u8;
+        pub fn beamnettle_upright_rect(
+            verbs: *const u8,
+            verbs_length: usize,
+            positions: *const f32,
+            positions_length: usize,
+            frame: *const f32,
+            frame_length: usize,
+            out: *mut f32,
+            out_length: usize,
+        ) -> u8;
+        pub fn beamnettle_reach(
+            coverage: *const f32,
+            coverage_length: usize,
+            out: *mut f32,
+            out_length: usize,
+        ) -> u8;
+        pub fn beamnettle_holds(
+            coverage: *const f32,
+            coverage_length: usize,
+            bounds: *const f32,
+            bounds_length: usize,
+        ) -> u8;
     }
 }
 
@@ -262,4 +315,91 @@ pub fn contains(coverage: &[f32], shape: &[f32]) -> u8 {
 pub fn touch(boxes: &[[f32; 10]], fringe: f32, point: [f32; 2]) -> u32 {
     let [x, y] = point;
     unsafe { c::beamnettle_touch(boxes.as_ptr(), boxes.len(), fringe, x, y) }
+}
+
+pub fn with_scissor(
+    clip: &[f32],
+    scissor: &[f32],
+    fringe: f32,
+    out: &mut [f32],
+    coverage: &mut [f32],
+) -> u8 {
+    unsafe {
+        c::beamnettle_with_scissor(
+            clip.as_ptr(),
+            clip.len(),
+            scissor.as_ptr(),
+            scissor.len(),
+            fringe,
+            out.as_mut_ptr(),
+            out.len(),
+            coverage.as_mut_ptr(),
+            coverage.len(),
+        )
+    }
+}
+
+pub fn trimmed_scissor(clip: &[f32], scissor: &[f32], fringe: f32, out: &mut [f32]) -> u8 {
+    unsafe {
+        c::beamnettle_trimmed_scissor(
+            clip.as_ptr(),
+            clip.len(),
+            scissor.as_ptr(),
+            scissor.len(),
+            fringe,
+            out.as_mut_ptr(),
+            out.len(),
+        )
+    }
+}
+
+pub fn rect_fill(clip: &[f32], fill: &[f32], fringe: f32, out: &mut [f32]) -> u8 {
+    unsafe {
+        c::beamnettle_rect_fill(
+            clip.as_ptr(),
+            clip.len(),
+            fill.as_ptr(),
+            fill.len(),
+            fringe,
+            out.as_mut_ptr(),
+            out.len(),
+        )
+    }
+}
+
+pub fn upright_rect(verbs: &[u8], positions: &[f32], frame: &[f32], out: &mut [f32]) -> u8 {
+    unsafe {
+        c::beamnettle_upright_rect(
+            verbs.as_ptr(),
+            verbs.len(),
+            positions.as_ptr(),
+            positions.len(),
+            frame.as_ptr(),
+            frame.len(),
+            out.as_mut_ptr(),
+            out.len(),
+        )
+    }
+}
+
+pub fn reach(coverage: &[f32], out: &mut [f32]) -> u8 {
+    unsafe {
+        c::beamnettle_reach(
+            coverage.as_ptr(),
+            coverage.len(),
+            out.as_mut_ptr(),
+            out.len(),
+        )
+    }
+}
+
+pub fn holds(coverage: &[f32], bounds: &[f32]) -> u8 {
+    unsafe {
+        c::beamnettle_holds(
+            coverage.as_ptr(),
+            coverage.len(),
+            bounds.as_ptr(),
+            bounds.len(),
+        )
+    }
 }

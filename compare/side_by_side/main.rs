@@ -8,10 +8,13 @@ mod chain;
 mod chains;
 mod drawings;
 mod fraction;
+mod holds;
+mod lending;
 mod lent;
 mod library;
 mod random;
 mod reckoner;
+mod scissors;
 mod touches;
 mod whole;
 
@@ -25,11 +28,13 @@ use std::{
 };
 
 /// The numbers that are shown beside done, as which a place counts, and the table's causes.
-const OUTCOMES: [(u8, &str); 4] = [
+const OUTCOMES: [(u8, &str); 6] = [
     (library::NONE, "none"),
     (library::YES, "yes"),
     (library::NO, "no"),
     (library::NO_FRAME, "no frame"),
+    (library::SHARED, "shared"),
+    (library::COVERED, "covered"),
 ];
 
 /// Everything that is counted.

@@ -27,7 +27,7 @@ fn length(random: &mut Random) -> usize {
 }
 
 /// Makes a box one that is likely refused.
-fn spoil(random: &mut Random, one: &mut Box10) {
+pub fn spoil(random: &mut Random, one: &mut Box10) {
     let (at, side) = (random.below(10), 6 + random.below(2));
     match random.below(4) {
         0 => one[at] = number(random),

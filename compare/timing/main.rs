@@ -329,9 +329,99 @@ fn boxes() {
     });
 }
 
+/// Times a call on two boxes.
+fn pair(
+    name: &str,
+    [one, two]: [Box10; 2],
+    old: impl Fn(&Shape, &Shape, f32),
+    mut new: impl FnMut(&[f32], &[f32], f32, &mut [f32]) -> u8,
+) {
+    let (first, second) = (Shape::new(one), Shape::new(two));
+    let mut out = [0.0; 10];
+    line(
+        name,
+        &mut || old(&first, &second, black_box(1.0)),
+        &mut || {
+            black_box(new(black_box(&one), &two, 1.0, &mut out));
+        },
+    );
+}
+
+fn scissors() {
+    let one: Box10 = [2.0, 0.0, 0.0, 2.0, 100.0, 80.0, 40.0, 30.0, 6.0, 5.0];
+    let near: Box10 = [2.0, 0.0, 0.0, 2.0, 104.0, 80.0, 40.0, 30.0, 6.0, 5.0];
+    let rect: Box10 = [2.0, 0.0, 0.0, 2.0, 100.0, 80.0, 40.0, 30.0, 0.0, 0.0];
+    let across: Box10 = [0.0, 1.0, -1.0, 0.0, 110.0, 90.0, 55.0, 70.0, 0.0, 0.0];
+    let around: Box10 = [1.0, 0.0, 0.0, 1.0, 101.0, 79.0, 90.0, 75.0, 0.0, 0.0];
+    let mut coverage = [0.0; 11];
+    let mut with_scissor = |clip: &[f32], scissor: &[f32], fringe: f32, out: &mut [f32]| {
+        library::with_scissor(clip, scissor, fringe, out, &mut coverage)
+    };
+    let old = Shape::with_scissor;
+    pair("with_scissor, round", [one, near], old, &mut with_scissor);
+    pair("with_scissor, square", [rect, across], old, with_scissor);
+    let (old, new) = (Shape::trimmed_scissor, library::trimmed_scissor);
+    pair("trimmed_scissor", [one, across], old, new);
+    let (old, new) = (Shape::rect_fill, library::rect_fill);
+    pair("rect_fill, shared", [rect, across], old, new);
+    pair("rect_fill, covered", [one, around], old, new);
+}
+
+fn upright_rect() {
+    let (verbs, positions) = ([0, 1, 1, 1, 5], [0.0, 0.0, 4.0, 0.0, 4.0, 3.0, 0.0, 3.0]);
+    let (outline, frame) = (
+        Outline::new(&verbs, &positions),
+        [0.0, 2.0, -3.0, 0.0, 5.0, 7.0],
+    );
+    let mut out = [0.0; 10];
+    line(
+        "upright_rect",
+        &mut || outline.upright_rect(black_box(frame)),
+        &mut || {
+            black_box(library::upright_rect(
+                black_box(&verbs),
+                &positions,
+                &frame,
+                &mut out,
+            ));
+        },
+    );
+}
+
+/// What a coverage reaches and holds.
+fn holds() {
+    // the corners of the bounds lie off the round ones, and are held
+    let round = [0.5, 0.0, 0.0, 0.5, -30.0, -20.0, 40.0, 30.0, 6.0, 5.0, 0.01];
+    let mut square = round;
+    square[8..].fill(0.0);
+    let bounds = [-10.0, -11.0, 130.0, 91.0];
+    let [old_square, old_round] = [&square, &round].map(Covering::new);
+    let mut out = [0.0; 4];
+    line("reach", &mut || old_round.reach(), &mut || {
+        black_box(library::reach(black_box(&round), &mut out));
+    });
+    line(
+        "holds, square",
+        &mut || old_square.holds(black_box(bounds)),
+        &mut || {
+            black_box(library::holds(black_box(&square), &bounds));
+        },
+    );
+    line(
+        "holds, round",
+        &mut || old_round.holds(black_box(bounds)),
+        &mut || {
+            black_box(library::holds(black_box(&round), &bounds));
+        },
+    );
+}
+
 fn main() {
     println!("| call | old | new | new / old |\n|---|---|---|---|");
     drawings();
     layings();
     boxes();
+    scissors();
+    upright_rect();
+    holds();
 }

@@ -2,10 +2,14 @@
 use clip_coverage::ClipCoverage;
 use clip_coverage::DistanceAnswer;
 use covering::CoverageAnswer;
+use device_bounds::MaybeBounds;
 use fault::Fault;
+use fill::FillAnswer;
+use fill::RectFill;
 use geometry::Bounds;
 use libc::STDOUT_FILENO;
 use mask::Outcome;
+use scissor::ScissorAnswer;
 use shape::BoundsAnswer;
 use shape::BoxAnswer;
 use shape::RoundedBox;
@@ -25,41 +29,87 @@ pub fn outcome(answer: Outcome) {
     }
 }
 
+// ---- boxes and coverages
+
+fn no_box() {
+    writing::write(b"nobox\n");
+}
+
 fn ten_floats(b: RoundedBox) {
     let frame = b.frame;
-    writing::write(b"box");
     writing::four(frame.a, frame.b, frame.c, frame.d);
     writing::write_float(frame.x);
     writing::write_float(frame.y);
     writing::four(b.ex, b.ey, b.rx, b.ry);
-    writing::write(b"\n");
-}
-
-pub fn boxed(answer: BoxAnswer) {
-    match answer {
-        BoxAnswer::Box(b) => ten_floats(b),
-        BoxAnswer::NoBox => writing::write(b"nobox\n"),
-        BoxAnswer::Refused(fault) => refused(fault),
-    }
 }
 
 fn eleven_floats(k: ClipCoverage) {
-    writing::write(b"cov");
     writing::four(k.la, k.lb, k.lc, k.ld);
     writing::write_float(k.ox);
     writing::write_float(k.oy);
     writing::four(k.ex, k.ey, k.rx, k.ry);
     writing::write_float(k.strays);
+}
+
+fn name_and_box(name: &[u8], b: RoundedBox) {
+    writing::write(name);
+    ten_floats(b);
+    writing::write(b"\n");
+}
+
+pub fn boxed(answer: BoxAnswer) {
+    match answer {
+        BoxAnswer::Box(b) => name_and_box(b"box", b),
+        BoxAnswer::NoBox => no_box(),
+        BoxAnswer::Refused(fault) => refused(fault),
+    }
+}
+
+fn name_and_coverage(k: ClipCoverage) {
+    writing::write(b"cov");
+    eleven_floats(k);
     writing::write(b"\n");
 }
 
 pub fn coverage(answer: CoverageAnswer) {
     match answer {
-        CoverageAnswer::Coverage(k) => eleven_floats(k),
-        CoverageAnswer::NoCoverage => writing::write(b"nobox\n"),
+        CoverageAnswer::Coverage(k) => name_and_coverage(k),
+        CoverageAnswer::NoCoverage => no_box(),
         CoverageAnswer::Refused(fault) => refused(fault),
     }
 }
+
+fn box_and_coverage(b: RoundedBox, k: ClipCoverage) {
+    writing::write(b"both");
+    ten_floats(b);
+    eleven_floats(k);
+    writing::write(b"\n");
+}
+
+pub fn both(answer: ScissorAnswer) {
+    match answer {
+        ScissorAnswer::Both(b, k) => box_and_coverage(b, k),
+        ScissorAnswer::NoBox => no_box(),
+        ScissorAnswer::Refused(fault) => refused(fault),
+    }
+}
+
+fn rect_fill(fill: RectFill) {
+    match fill {
+        RectFill::Shared(b) => name_and_box(b"shared", b),
+        RectFill::Covered(b) => name_and_box(b"covered", b),
+    }
+}
+
+pub fn filled(answer: FillAnswer) {
+    match answer {
+        FillAnswer::Fill(fill) => rect_fill(fill),
+        FillAnswer::NoBox => no_box(),
+        FillAnswer::Refused(fault) => refused(fault),
+    }
+}
+
+// ---- bounds, numbers, tests
 
 fn four_floats(b: Bounds) {
     writing::write(b"bounds");
@@ -71,6 +121,13 @@ pub fn bounds(answer: BoundsAnswer) {
     match answer {
         BoundsAnswer::Bounds(b) => four_floats(b),
         BoundsAnswer::Refused(fault) => refused(fault),
+    }
+}
+
+pub fn reach(answer: MaybeBounds) {
+    match answer {
+        MaybeBounds::Bounds(b) => four_floats(b),
+        MaybeBounds::Everywhere => writing::write(b"everywhere\n"),
     }
 }
 

@@ -2,7 +2,6 @@
 // what each does in words; each contract gives its number and all that is lent afterwards outright, but
 // for the place that a touch names, which document 01 leaves free.
 use cells::Size;
-use geometry::Position;
 use laying::Offset;
 use shape::RoundedBox;
 ghost use mathlib.Core.Path.{_≡_};
@@ -10,20 +9,11 @@ ghost use lib.ListN.{length};
 ghost use Rattle.mask.specs.Calls.{lent, outcomeNumber, drawAnswer, layAnswer};
 ghost use Rattle.touch.specs.Touch.{pointOf};
 ghost use Rattle.boundary.specs.Answers.{after, boxHanded, coverageHanded, boundsHanded, distanceHanded, testNumber};
+ghost use Rattle.boundary.specs.Answers.{bothBoxHanded, bothCoverageHanded, fillHanded};
+ghost use Rattle.box_exports.specs.Calls.{fitLent, transformedLent, intersectionLent, rectIntersectionLent, coverageLent};
+ghost use Rattle.box_exports.specs.Calls.{boundsLent, distanceLent, parallelLent, containsLent};
+ghost use Rattle.window_exports.specs.Calls.{withScissorLent, trimmedScissorLent, rectFillLent, uprightRectLent, reachLent, holdsLent};
 ghost use Rattle.beamnettle.specs.Calls.{drawingLent, maskDrawn, floatsDrawn, countersDrawn, layingLent, maskLaid, TouchNumber};
-ghost use Rattle.beamnettle.specs.Calls.{fitLent, transformedLent, intersectionLent, rectIntersectionLent, coverageLent};
-ghost use Rattle.beamnettle.specs.Calls.{boundsLent, distanceLent, parallelLent, containsLent};
-
-const TOO_SHORT: u8 = 4;
-
-// How many floats a box, a frame, a coverage and bounds take.
-const BOX: usize = 10;
-
-const FRAME: usize = 6;
-
-const COVERAGE: usize = 11;
-
-const BOUNDS: usize = 4;
 
 // ---- masks
 
@@ -73,17 +63,14 @@ pub extern "C" fn beamnettle_lay(
     boundary::outcome_number(mask::intersect(mask, own_size, other, other_size, offset))
 }
 
-// ---- boxes
+// ---- boxes: crate box_exports has the calls
 
 #[no_mangle]
 pub extern "C" fn beamnettle_fit(verbs: &[u8], positions: &[f32], out: &mut [f32]) -> u8
     ensures { λ r. ⌜ r ≡ (boxHanded (fitLent (now (verbs .entry)) (now (positions .entry)) (now (out .entry)))) .number ⌝ }
     ensures { λ _. ⌜ now (out .exit) ≡ after (boxHanded (fitLent (now (verbs .entry)) (now (positions .entry)) (now (out .entry)))) (now (out .entry)) ⌝ }
 {
-    if out.len() < BOX {
-        return TOO_SHORT;
-    }
-    boundary::hand_box(fit::fit(verbs, positions), out)
+    box_exports::fit(verbs, positions, out)
 }
 
 #[no_mangle]
@@ -91,13 +78,7 @@ pub extern "C" fn beamnettle_transformed(b: &[f32], frame: &[f32], out: &mut [f3
     ensures { λ r. ⌜ r ≡ (boxHanded (transformedLent (now (b .entry)) (now (frame .entry)) (now (out .entry)))) .number ⌝ }
     ensures { λ _. ⌜ now (out .exit) ≡ after (boxHanded (transformedLent (now (b .entry)) (now (frame .entry)) (now (out .entry)))) (now (out .entry)) ⌝ }
 {
-    if b.len() < BOX || frame.len() < FRAME || out.len() < BOX {
-        return TOO_SHORT;
-    }
-    boundary::hand_box(
-        boxes::box_at(b, 0).transformed(boxes::frame_at(frame, 0)),
-        out,
-    )
+    box_exports::transformed(b, frame, out)
 }
 
 #[no_mangle]
@@ -110,13 +91,7 @@ pub extern "C" fn beamnettle_intersection(
     ensures { λ r. ⌜ r ≡ (boxHanded (intersectionLent (now (one .entry)) (now (two .entry)) fringe (now (out .entry)))) .number ⌝ }
     ensures { λ _. ⌜ now (out .exit) ≡ after (boxHanded (intersectionLent (now (one .entry)) (now (two .entry)) fringe (now (out .entry)))) (now (out .entry)) ⌝ }
 {
-    if one.len() < BOX || two.len() < BOX || out.len() < BOX {
-        return TOO_SHORT;
-    }
-    boundary::hand_box(
-        overlap::intersection(boxes::box_at(one, 0), boxes::box_at(two, 0), fringe),
-        out,
-    )
+    box_exports::intersection(one, two, fringe, out)
 }
 
 #[no_mangle]
@@ -124,13 +99,7 @@ pub extern "C" fn beamnettle_rect_intersection(one: &[f32], two: &[f32], out: &m
     ensures { λ r. ⌜ r ≡ (boxHanded (rectIntersectionLent (now (one .entry)) (now (two .entry)) (now (out .entry)))) .number ⌝ }
     ensures { λ _. ⌜ now (out .exit) ≡ after (boxHanded (rectIntersectionLent (now (one .entry)) (now (two .entry)) (now (out .entry)))) (now (out .entry)) ⌝ }
 {
-    if one.len() < BOX || two.len() < BOX || out.len() < BOX {
-        return TOO_SHORT;
-    }
-    boundary::hand_box(
-        sides::rect_intersection(boxes::box_at(one, 0), boxes::box_at(two, 0)),
-        out,
-    )
+    box_exports::rect_intersection(one, two, out)
 }
 
 #[no_mangle]
@@ -138,10 +107,7 @@ pub extern "C" fn beamnettle_coverage(b: &[f32], fringe: f32, out: &mut [f32]) -
     ensures { λ r. ⌜ r ≡ (coverageHanded (coverageLent (now (b .entry)) fringe (now (out .entry)))) .number ⌝ }
     ensures { λ _. ⌜ now (out .exit) ≡ after (coverageHanded (coverageLent (now (b .entry)) fringe (now (out .entry)))) (now (out .entry)) ⌝ }
 {
-    if b.len() < BOX || out.len() < COVERAGE {
-        return TOO_SHORT;
-    }
-    boundary::hand_coverage(covering::coverage(boxes::box_at(b, 0), fringe), out)
+    box_exports::coverage(b, fringe, out)
 }
 
 #[no_mangle]
@@ -149,10 +115,7 @@ pub extern "C" fn beamnettle_bounds(b: &[f32], out: &mut [f32]) -> u8
     ensures { λ r. ⌜ r ≡ (boundsHanded (boundsLent (now (b .entry)) (now (out .entry)))) .number ⌝ }
     ensures { λ _. ⌜ now (out .exit) ≡ after (boundsHanded (boundsLent (now (b .entry)) (now (out .entry)))) (now (out .entry)) ⌝ }
 {
-    if b.len() < BOX || out.len() < BOUNDS {
-        return TOO_SHORT;
-    }
-    boundary::hand_bounds(boxes::box_at(b, 0).bounds(), out)
+    box_exports::bounds(b, out)
 }
 
 #[no_mangle]
@@ -160,30 +123,92 @@ pub extern "C" fn beamnettle_distance(k: &[f32], x: f32, y: f32, out: &mut [f32]
     ensures { λ r. ⌜ r ≡ (distanceHanded (distanceLent (now (k .entry)) x y (now (out .entry)))) .number ⌝ }
     ensures { λ _. ⌜ now (out .exit) ≡ after (distanceHanded (distanceLent (now (k .entry)) x y (now (out .entry)))) (now (out .entry)) ⌝ }
 {
-    if k.len() < COVERAGE || out.len() < 1 {
-        return TOO_SHORT;
-    }
-    boundary::hand_distance(boundary::coverage_in(k).distance(Position { x, y }), out)
+    box_exports::distance(k, x, y, out)
 }
 
 #[no_mangle]
 pub extern "C" fn beamnettle_parallel(one: &[f32], two: &[f32]) -> u8
     ensures { λ r. ⌜ r ≡ testNumber (parallelLent (now (one .entry)) (now (two .entry))) ⌝ }
 {
-    if one.len() < BOX || two.len() < BOX {
-        return TOO_SHORT;
-    }
-    boundary::test_number(beside::parallel(boxes::box_at(one, 0), boxes::box_at(two, 0)))
+    box_exports::parallel(one, two)
 }
 
 #[no_mangle]
 pub extern "C" fn beamnettle_contains(k: &[f32], b: &[f32]) -> u8
     ensures { λ r. ⌜ r ≡ testNumber (containsLent (now (k .entry)) (now (b .entry))) ⌝ }
 {
-    if k.len() < COVERAGE || b.len() < BOX {
-        return TOO_SHORT;
-    }
-    boundary::test_number(boundary::coverage_in(k).contains(boxes::box_at(b, 0)))
+    box_exports::contains(k, b)
+}
+
+// ---- scissors, fills and device bounds: crate window_exports has the calls
+
+#[no_mangle]
+pub extern "C" fn beamnettle_with_scissor(
+    clip: &[f32],
+    scissor: &[f32],
+    fringe: f32,
+    out: &mut [f32],
+    coverage: &mut [f32],
+) -> u8
+    ensures { λ r. ⌜ r ≡ (bothBoxHanded (withScissorLent (now (clip .entry)) (now (scissor .entry)) fringe (now (out .entry)) (now (coverage .entry)))) .number ⌝ }
+    ensures { λ _. ⌜ now (out .exit) ≡ after (bothBoxHanded (withScissorLent (now (clip .entry)) (now (scissor .entry)) fringe (now (out .entry)) (now (coverage .entry)))) (now (out .entry)) ⌝ }
+    ensures { λ _. ⌜ now (coverage .exit) ≡ after (bothCoverageHanded (withScissorLent (now (clip .entry)) (now (scissor .entry)) fringe (now (out .entry)) (now (coverage .entry)))) (now (coverage .entry)) ⌝ }
+{
+    window_exports::with_scissor(clip, scissor, fringe, out, coverage)
+}
+
+#[no_mangle]
+pub extern "C" fn beamnettle_trimmed_scissor(
+    clip: &[f32],
+    scissor: &[f32],
+    fringe: f32,
+    out: &mut [f32],
+) -> u8
+    ensures { λ r. ⌜ r ≡ (boxHanded (trimmedScissorLent (now (clip .entry)) (now (scissor .entry)) fringe (now (out .entry)))) .number ⌝ }
+    ensures { λ _. ⌜ now (out .exit) ≡ after (boxHanded (trimmedScissorLent (now (clip .entry)) (now (scissor .entry)) fringe (now (out .entry)))) (now (out .entry)) ⌝ }
+{
+    window_exports::trimmed_scissor(clip, scissor, fringe, out)
+}
+
+#[no_mangle]
+pub extern "C" fn beamnettle_rect_fill(
+    clip: &[f32],
+    fill: &[f32],
+    fringe: f32,
+    out: &mut [f32],
+) -> u8
+    ensures { λ r. ⌜ r ≡ (fillHanded (rectFillLent (now (clip .entry)) (now (fill .entry)) fringe (now (out .entry)))) .number ⌝ }
+    ensures { λ _. ⌜ now (out .exit) ≡ after (fillHanded (rectFillLent (now (clip .entry)) (now (fill .entry)) fringe (now (out .entry)))) (now (out .entry)) ⌝ }
+{
+    window_exports::rect_fill(clip, fill, fringe, out)
+}
+
+#[no_mangle]
+pub extern "C" fn beamnettle_upright_rect(
+    verbs: &[u8],
+    positions: &[f32],
+    frame: &[f32],
+    out: &mut [f32],
+) -> u8
+    ensures { λ r. ⌜ r ≡ (boxHanded (uprightRectLent (now (verbs .entry)) (now (positions .entry)) (now (frame .entry)) (now (out .entry)))) .number ⌝ }
+    ensures { λ _. ⌜ now (out .exit) ≡ after (boxHanded (uprightRectLent (now (verbs .entry)) (now (positions .entry)) (now (frame .entry)) (now (out .entry)))) (now (out .entry)) ⌝ }
+{
+    window_exports::upright_rect(verbs, positions, frame, out)
+}
+
+#[no_mangle]
+pub extern "C" fn beamnettle_reach(k: &[f32], out: &mut [f32]) -> u8
+    ensures { λ r. ⌜ r ≡ (reachLent (now (k .entry)) (now (out .entry))) .number ⌝ }
+    ensures { λ _. ⌜ now (out .exit) ≡ after (reachLent (now (k .entry)) (now (out .entry))) (now (out .entry)) ⌝ }
+{
+    window_exports::reach(k, out)
+}
+
+#[no_mangle]
+pub extern "C" fn beamnettle_holds(k: &[f32], bounds: &[f32]) -> u8
+    ensures { λ r. ⌜ r ≡ testNumber (holdsLent (now (k .entry)) (now (bounds .entry))) ⌝ }
+{
+    window_exports::holds(k, bounds)
 }
 
 // ---- the touch list

@@ -5,7 +5,7 @@
 // `_unchecked` and takes any floats. Each contract gives the answer outright, by a definition of specs/.
 ghost use mathlib.Core.Path.{_≡_};
 ghost use Rattle.beside.specs.Alongside.{scaleOf, alignedOf, straightOf, crossedOf, straightBy, crossedBy, alongsideOf, parallelOf};
-ghost use Rattle.beside.specs.Calls.{pairCheckOf, parallelCall};
+ghost use Rattle.beside.specs.Calls.{pairCheckOf, pairFringeCheckOf, parallelCall};
 use fault::Check;
 use geometry::Transform2D;
 use shape::RoundedBox;
@@ -30,7 +30,7 @@ pub enum MaybePlaced {
 // ---- alongside
 
 // The largest size of the linear part's numbers.
-fn scale(t: Transform2D) -> f32
+pub fn scale(t: Transform2D) -> f32
     ensures { λ r. ⌜ r ≡ scaleOf t ⌝ }
 {
     float::max(
@@ -82,7 +82,7 @@ pub fn alongside(one: RoundedBox, two: RoundedBox) -> MaybePlaced
 
 impl Placed {
     // The share of a frame's scale that an axis may run across and still be along the other's.
-    const ALIGNED_SHARE: f32 = 1e-4;
+    pub const ALIGNED_SHARE: f32 = 1e-4;
 
     // A box by the frame t, as it stands, and with its sides changed over.
     fn straight(t: Transform2D, b: RoundedBox) -> Placed
@@ -116,13 +116,21 @@ impl Placed {
     }
 }
 
-// ---- parallel
+// ---- refusals
 
 pub fn pair_check(one: RoundedBox, two: RoundedBox) -> Check
     ensures { λ r. ⌜ r ≡ pairCheckOf one two ⌝ }
 {
     one.check().and_then(two.check())
 }
+
+pub fn pair_fringe_check(one: RoundedBox, two: RoundedBox, fringe: f32) -> Check
+    ensures { λ r. ⌜ r ≡ pairFringeCheckOf one two fringe ⌝ }
+{
+    pair_check(one, two).and_then(shape::fringe_check(fringe))
+}
+
+// ---- parallel
 
 fn parallel_unchecked(one: RoundedBox, two: RoundedBox) -> bool
     ensures { λ r. ⌜ r ≡ parallelOf one two ⌝ }

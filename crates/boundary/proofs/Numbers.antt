@@ -14,17 +14,24 @@ use Rattle.mask.specs.Calls.{outcomeNumber}
 use Rattle.shape.specs.declared.BoxAnswer.{BoxAnswer}
 use Rattle.shape.specs.declared.BoxAnswer.the-variants as box
 use Rattle.covering.specs.declared.CoverageAnswer.{CoverageAnswer}
-use Rattle.covering.specs.declared.CoverageAnswer.the-variants as covered
+use Rattle.covering.specs.declared.CoverageAnswer.the-variants as coverage
 use Rattle.shape.specs.declared.BoundsAnswer.{BoundsAnswer}
 use Rattle.shape.specs.declared.BoundsAnswer.the-variants as bounds
 use Rattle.clip_coverage.specs.declared.DistanceAnswer.{DistanceAnswer}
 use Rattle.clip_coverage.specs.declared.DistanceAnswer.the-variants as distance
 use Rattle.shape.specs.declared.TestAnswer.{TestAnswer}
 use Rattle.shape.specs.declared.TestAnswer.the-variants as test
+use Rattle.device_bounds.specs.declared.MaybeBounds.{MaybeBounds}
+use Rattle.device_bounds.specs.declared.MaybeBounds.the-variants as reached
+use Rattle.scissor.specs.declared.ScissorAnswer.{ScissorAnswer}
+use Rattle.scissor.specs.declared.ScissorAnswer.the-variants as scissor
+use Rattle.fill.specs.declared.RectFill.the-variants as fill
+use Rattle.fill.specs.declared.FillAnswer.{FillAnswer}
+use Rattle.fill.specs.declared.FillAnswer.the-variants as filled
 use Rattle.touch.specs.declared.TouchAnswer.{TouchAnswer}
 use Rattle.touch.specs.declared.TouchAnswer.the-variants as touched
-use Rattle.boundary.specs.Outcomes.{Ordinary, done, none, yes, no, noFrame, place, ordinaryNumber}
-use Rattle.boundary.specs.Answers.{boxHanded, coverageHanded, boundsHanded, distanceHanded, testNumber, touchNumber}
+use Rattle.boundary.specs.Outcomes.{Ordinary, done, none, yes, no, noFrame, shared, covered, place, ordinaryNumber}
+use Rattle.boundary.specs.Answers.{boxHanded, coverageHanded, boundsHanded, distanceHanded, bothBoxHanded, fillHanded, reachHanded, testNumber, touchNumber}
 use Rattle.boundary.specs.Numbers.{CauseExactlyWhen, NumbersApart}
 
 -- ---- outcomes
@@ -35,6 +42,8 @@ outside none low high = omega arith
 outside yes low high = omega arith
 outside no low high = omega arith
 outside noFrame low high = omega arith
+outside shared low high = omega arith
+outside covered low high = omega arith
 outside (place k) low high = omega arith
 
 apart : (o : Ordinary) (f : Fault) → ordinaryNumber o ≡ numberOf f → ⊥
@@ -42,7 +51,7 @@ apart o f e = let least = cause-numbers .least f in let most = cause-numbers .mo
 
 -- those below the places, by number; then the places
 abbrev outcome-at : ℕ → Ordinary
-outcome-at n = getD (done ∷ []) n (getD (none ∷ yes ∷ no ∷ noFrame ∷ []) (n - 32) (place (n - 256)))
+outcome-at n = getD (done ∷ []) n (getD (none ∷ yes ∷ no ∷ noFrame ∷ shared ∷ covered ∷ []) (n - 32) (place (n - 256)))
 
 own-outcome : (o : Ordinary) → outcome-at (ordinaryNumber o) ≡ o
 own-outcome done = refl
@@ -50,10 +59,14 @@ own-outcome none = refl
 own-outcome yes = refl
 own-outcome no = refl
 own-outcome noFrame = refl
+own-outcome shared = refl
+own-outcome covered = refl
 own-outcome (place k) =
     let past-first : 1 ≤ 256 + k = omega arith in
-    let past-all : 4 ≤ 256 + k - 32 = omega arith in
-    List·getD-eq-default (done ∷ []) _ past-first ∙ List·getD-eq-default (none ∷ yes ∷ no ∷ noFrame ∷ []) _ past-all ∙ ap place (omega arith)
+    let past-all : 6 ≤ 256 + k - 32 = omega arith in
+    List·getD-eq-default (done ∷ []) _ past-first
+    ∙ List·getD-eq-default (none ∷ yes ∷ no ∷ noFrame ∷ shared ∷ covered ∷ []) _ past-all
+    ∙ ap place (omega arith)
 
 outcomes : (o p : Ordinary) → ordinaryNumber o ≡ ordinaryNumber p → o ≡ p
 outcomes o p e = sym (own-outcome o) ∙ ap outcome-at e ∙ own-outcome p
@@ -82,10 +95,10 @@ box-within (box.Box b) low high = absurd (outside done low high)
 box-within box.NoBox low high = absurd (outside none low high)
 box-within (box.Refused f) low high = (f, refl)
 
-coverage-within : (a : CoverageAnswer) → 1 ≤ (coverageHanded a) .number → (coverageHanded a) .number ≤ 31 → (f : Fault) × (a ≡ covered.Refused f)
-coverage-within (covered.Coverage k) low high = absurd (outside done low high)
-coverage-within covered.NoCoverage low high = absurd (outside none low high)
-coverage-within (covered.Refused f) low high = (f, refl)
+coverage-within : (a : CoverageAnswer) → 1 ≤ (coverageHanded a) .number → (coverageHanded a) .number ≤ 31 → (f : Fault) × (a ≡ coverage.Refused f)
+coverage-within (coverage.Coverage k) low high = absurd (outside done low high)
+coverage-within coverage.NoCoverage low high = absurd (outside none low high)
+coverage-within (coverage.Refused f) low high = (f, refl)
 
 bounds-within : (a : BoundsAnswer) → 1 ≤ (boundsHanded a) .number → (boundsHanded a) .number ≤ 31 → (f : Fault) × (a ≡ bounds.Refused f)
 bounds-within (bounds.Bounds b) low high = absurd (outside done low high)
@@ -94,6 +107,21 @@ bounds-within (bounds.Refused f) low high = (f, refl)
 distance-within : (a : DistanceAnswer) → 1 ≤ (distanceHanded a) .number → (distanceHanded a) .number ≤ 31 → (f : Fault) × (a ≡ distance.Refused f)
 distance-within (distance.Distance x) low high = absurd (outside done low high)
 distance-within (distance.Refused f) low high = (f, refl)
+
+both-within : (a : ScissorAnswer) → 1 ≤ (bothBoxHanded a) .number → (bothBoxHanded a) .number ≤ 31 → (f : Fault) × (a ≡ scissor.Refused f)
+both-within (scissor.Both b k) low high = absurd (outside done low high)
+both-within scissor.NoBox low high = absurd (outside none low high)
+both-within (scissor.Refused f) low high = (f, refl)
+
+fill-within : (a : FillAnswer) → 1 ≤ (fillHanded a) .number → (fillHanded a) .number ≤ 31 → (f : Fault) × (a ≡ filled.Refused f)
+fill-within (filled.Fill (fill.Shared b)) low high = absurd (outside shared low high)
+fill-within (filled.Fill (fill.Covered b)) low high = absurd (outside covered low high)
+fill-within filled.NoBox low high = absurd (outside none low high)
+fill-within (filled.Refused f) low high = (f, refl)
+
+never-refused : (a : MaybeBounds) (f : Fault) → (reachHanded a) .number ≡ numberOf f → ⊥
+never-refused (reached.Bounds b) f e = apart done f e
+never-refused reached.Everywhere f e = apart none f e
 
 test-within : (a : TestAnswer) → 1 ≤ testNumber a → testNumber a ≤ 31 → (f : Fault) × (a ≡ test.Refused f)
 test-within (test.Done true) low high = absurd (outside yes low high)
@@ -112,9 +140,12 @@ numbers-apart = record {
   outcomes = outcomes;
   outcome = told outcomeNumber drawn.Refused (λ f. refl) outcome-within;
   box = told (λ a. (boxHanded a) .number) box.Refused (λ f. refl) box-within;
-  coverage = told (λ a. (coverageHanded a) .number) covered.Refused (λ f. refl) coverage-within;
+  coverage = told (λ a. (coverageHanded a) .number) coverage.Refused (λ f. refl) coverage-within;
   bounds = told (λ a. (boundsHanded a) .number) bounds.Refused (λ f. refl) bounds-within;
   distance = told (λ a. (distanceHanded a) .number) distance.Refused (λ f. refl) distance-within;
+  both = told (λ a. (bothBoxHanded a) .number) scissor.Refused (λ f. refl) both-within;
+  fill = told (λ a. (fillHanded a) .number) filled.Refused (λ f. refl) fill-within;
+  reach = never-refused;
   test = told testNumber test.Refused (λ f. refl) test-within;
   touch = told touchNumber touched.Refused (λ f. refl) touch-within;
 }

@@ -10,7 +10,7 @@ use Rattle.fault.specs.Number.{numberOf}
 use Rattle.shape.specs.declared.BoxAnswer.{BoxAnswer}
 use Rattle.shape.specs.declared.BoxAnswer.the-variants as box
 use Rattle.covering.specs.declared.CoverageAnswer.{CoverageAnswer}
-use Rattle.covering.specs.declared.CoverageAnswer.the-variants as covered
+use Rattle.covering.specs.declared.CoverageAnswer.the-variants as coverage
 use Rattle.shape.specs.declared.BoundsAnswer.{BoundsAnswer}
 use Rattle.shape.specs.declared.BoundsAnswer.the-variants as bounds
 use Rattle.clip_coverage.specs.declared.DistanceAnswer.{DistanceAnswer}
@@ -19,16 +19,27 @@ use Rattle.shape.specs.declared.TestAnswer.{TestAnswer}
 use Rattle.shape.specs.declared.TestAnswer.the-variants as test
 use Rattle.touch.specs.declared.TouchAnswer.{TouchAnswer}
 use Rattle.touch.specs.declared.TouchAnswer.the-variants as touched
-use Rattle.boundary.specs.Lent.{boxFloats, coverageFloats, boundsFloats, over}
-use Rattle.boundary.specs.Outcomes.{Ordinary, ordinaryNumber, done, none, yes, no, noFrame, place}
+use Rattle.device_bounds.specs.declared.MaybeBounds.{MaybeBounds}
+use Rattle.device_bounds.specs.declared.MaybeBounds.the-variants as reached
+use Rattle.scissor.specs.declared.ScissorAnswer.{ScissorAnswer}
+use Rattle.scissor.specs.declared.ScissorAnswer.the-variants as scissor
+use Rattle.fill.specs.declared.RectFill.{RectFill}
+use Rattle.fill.specs.declared.RectFill.the-variants as fill
+use Rattle.fill.specs.declared.FillAnswer.{FillAnswer}
+use Rattle.fill.specs.declared.FillAnswer.the-variants as filled
+use Rattle.lent_floats.specs.Lent.{boxFloats, coverageFloats, boundsFloats, over}
+use Rattle.boundary.specs.Outcomes.{Ordinary, ordinaryNumber, done, none, yes, no, noFrame, shared, covered, place}
 
 pub record Handed : Type 0 where
   pub number : ℕ
   pub floats : List Float
 
--- done, and floats are written
+-- an outcome with floats, which are written; done, with floats
+abbrev pub writtenAs : Ordinary → List Float → Handed
+writtenAs o floats = record { number = ordinaryNumber o; floats = floats }
+
 abbrev pub written : List Float → Handed
-written floats = record { number = ordinaryNumber done; floats = floats }
+written floats = writtenAs done floats
 
 -- an outcome without floats
 abbrev pub plain : Ordinary → Handed
@@ -50,9 +61,9 @@ boxHanded box.NoBox = plain none
 boxHanded (box.Refused f) = turnedAway f
 
 abbrev pub coverageHanded : CoverageAnswer → Handed
-coverageHanded (covered.Coverage k) = written (coverageFloats k)
-coverageHanded covered.NoCoverage = plain none
-coverageHanded (covered.Refused f) = turnedAway f
+coverageHanded (coverage.Coverage k) = written (coverageFloats k)
+coverageHanded coverage.NoCoverage = plain none
+coverageHanded (coverage.Refused f) = turnedAway f
 
 abbrev pub boundsHanded : BoundsAnswer → Handed
 boundsHanded (bounds.Bounds b) = written (boundsFloats b)
@@ -61,6 +72,32 @@ boundsHanded (bounds.Refused f) = turnedAway f
 abbrev pub distanceHanded : DistanceAnswer → Handed
 distanceHanded (distance.Distance x) = written (x ∷ [])
 distanceHanded (distance.Refused f) = turnedAway f
+
+-- a box and its coverage, written apart
+abbrev pub bothBoxHanded : ScissorAnswer → Handed
+bothBoxHanded (scissor.Both b k) = written (boxFloats b)
+bothBoxHanded scissor.NoBox = plain none
+bothBoxHanded (scissor.Refused f) = turnedAway f
+
+abbrev pub bothCoverageHanded : ScissorAnswer → Handed
+bothCoverageHanded (scissor.Both b k) = written (coverageFloats k)
+bothCoverageHanded scissor.NoBox = plain none
+bothCoverageHanded (scissor.Refused f) = turnedAway f
+
+-- 'a shared box or a covered one, both carrying the box'
+abbrev pub rectFillHanded : RectFill → Handed
+rectFillHanded (fill.Shared b) = writtenAs shared (boxFloats b)
+rectFillHanded (fill.Covered b) = writtenAs covered (boxFloats b)
+
+abbrev pub fillHanded : FillAnswer → Handed
+fillHanded (filled.Fill f) = rectFillHanded f
+fillHanded filled.NoBox = plain none
+fillHanded (filled.Refused f) = turnedAway f
+
+-- a coverage of one everywhere has no bounds
+abbrev pub reachHanded : MaybeBounds → Handed
+reachHanded (reached.Bounds b) = written (boundsFloats b)
+reachHanded reached.Everywhere = plain none
 
 -- answers without floats
 

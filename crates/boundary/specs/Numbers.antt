@@ -12,8 +12,11 @@ use Rattle.shape.specs.declared.BoundsAnswer.the-variants as bounds
 use Rattle.clip_coverage.specs.declared.DistanceAnswer.the-variants as distance
 use Rattle.shape.specs.declared.TestAnswer.the-variants as test
 use Rattle.touch.specs.declared.TouchAnswer.the-variants as touched
+use Rattle.device_bounds.specs.declared.MaybeBounds.{MaybeBounds}
+use Rattle.scissor.specs.declared.ScissorAnswer.the-variants as scissor
+use Rattle.fill.specs.declared.FillAnswer.the-variants as filled
 use Rattle.boundary.specs.Outcomes.{Ordinary, ordinaryNumber}
-use Rattle.boundary.specs.Answers.{boxHanded, coverageHanded, boundsHanded, distanceHanded, testNumber, touchNumber}
+use Rattle.boundary.specs.Answers.{boxHanded, coverageHanded, boundsHanded, distanceHanded, bothBoxHanded, fillHanded, reachHanded, testNumber, touchNumber}
 
 -- of answers, a way to number them, and those that refuse: a number is a cause's exactly when the answer is the refusal
 -- with that cause; from 1 to 31 there is nothing else
@@ -34,5 +37,9 @@ pub record NumbersApart : Type 0 where
   pub coverage : CauseExactlyWhen (λ a. (coverageHanded a) .number) covered.Refused
   pub bounds : CauseExactlyWhen (λ a. (boundsHanded a) .number) bounds.Refused
   pub distance : CauseExactlyWhen (λ a. (distanceHanded a) .number) distance.Refused
+  pub both : CauseExactlyWhen (λ a. (bothBoxHanded a) .number) scissor.Refused
+  pub fill : CauseExactlyWhen (λ a. (fillHanded a) .number) filled.Refused
+  -- `reach` is never refused
+  pub reach : (a : MaybeBounds) (f : Fault) → (reachHanded a) .number ≡ numberOf f → ⊥
   pub test : CauseExactlyWhen testNumber test.Refused
   pub touch : CauseExactlyWhen touchNumber touched.Refused

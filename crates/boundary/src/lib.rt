@@ -1,9 +1,12 @@
-// What crosses the C boundary: coverages as lent floats (crate boxes has boxes), and answers as numbers.
+// What an answer hands over at the C boundary: its number, and its floats, written to what is lent.
 // No function here is a call of the kiosk's: crate beamnettle exports those.
-use clip_coverage::ClipCoverage;
 use clip_coverage::DistanceAnswer;
 use covering::CoverageAnswer;
+use device_bounds::MaybeBounds;
+use fill::FillAnswer;
+use fill::RectFill;
 use mask::Outcome;
+use scissor::ScissorAnswer;
 use shape::BoundsAnswer;
 use shape::BoxAnswer;
 use shape::TestAnswer;
@@ -12,8 +15,8 @@ ghost use mathlib.Core.Path.{_≡_};
 ghost use Prim.Native.Nat.{_≤_};
 ghost use lib.ListN.{length};
 ghost use Rattle.mask.specs.Calls.{outcomeNumber};
-ghost use Rattle.boundary.specs.Lent.{coverageIn, over};
-ghost use Rattle.boundary.specs.Answers.{after, boxHanded, coverageHanded, boundsHanded, distanceHanded, testNumber, touchNumber};
+ghost use Rattle.boundary.specs.Answers.{after, boxHanded, coverageHanded, boundsHanded, distanceHanded};
+ghost use Rattle.boundary.specs.Answers.{bothBoxHanded, bothCoverageHanded, rectFillHanded, fillHanded, reachHanded, testNumber, touchNumber};
 
 const DONE: u8 = 0;
 
@@ -25,41 +28,12 @@ const NO: u8 = 34;
 
 const NO_FRAME: u32 = 35;
 
+const SHARED: u8 = 36;
+
+const COVERED: u8 = 37;
+
 // A place is answered above all other numbers.
 const FIRST_PLACE: u32 = 256;
-
-// ---- lent floats
-
-pub fn coverage_in(s: &[f32]) -> ClipCoverage
-    requires { ⌜ 11 ≤ length (now s) ⌝ }
-    ensures { λ r. ⌜ r ≡ coverageIn (now (s .entry)) ⌝ }
-{
-    ClipCoverage {
-        la: s[0],
-        lb: s[1],
-        lc: s[2],
-        ld: s[3],
-        ox: s[4],
-        oy: s[5],
-        ex: s[6],
-        ey: s[7],
-        rx: s[8],
-        ry: s[9],
-        strays: s[10],
-    }
-}
-
-// Writes an answer's floats to the front of what is lent.
-fn put(out: &mut [f32], floats: &[f32])
-    requires { ⌜ length (now floats) ≤ length (now out) ⌝ }
-    ensures { λ _. ⌜ now (out .exit) ≡ over (now (floats .entry)) (now (out .entry)) ⌝ }
-{
-    let mut i = 0;
-    while i < floats.len() {
-        out[i] = floats[i];
-        i += 1;
-    }
-}
 
 // ---- answers, handed over
 
@@ -70,8 +44,7 @@ pub fn hand_box(answer: BoxAnswer, out: &mut [f32]) -> u8
 {
     match answer {
         BoxAnswer::Box(b) => {
-            let f = b.frame;
-            put(out, &[f.a, f.b, f.c, f.d, f.x, f.y, b.ex, b.ey, b.rx, b.ry]);
+            lent_floats::put_box(out, b);
             DONE
         }
         BoxAnswer::NoBox => NONE,
@@ -86,22 +59,7 @@ pub fn hand_coverage(answer: CoverageAnswer, out: &mut [f32]) -> u8
 {
     match answer {
         CoverageAnswer::Coverage(k) => {
-            put(
-                out,
-                &[
-                    k.la,
-                    k.lb,
-                    k.lc,
-                    k.ld,
-                    k.ox,
-                    k.oy,
-                    k.ex,
-                    k.ey,
-                    k.rx,
-                    k.ry,
-                    k.strays,
-                ],
-            );
+            lent_floats::put_coverage(out, k);
             DONE
         }
         CoverageAnswer::NoCoverage => NONE,
@@ -116,7 +74,7 @@ pub fn hand_bounds(answer: BoundsAnswer, out: &mut [f32]) -> u8
 {
     match answer {
         BoundsAnswer::Bounds(b) => {
-            put(out, &[b.minx, b.miny, b.maxx, b.maxy]);
+            lent_floats::put_bounds(out, b);
             DONE
         }
         BoundsAnswer::Refused(fault) => fault.number(),
@@ -130,10 +88,71 @@ pub fn hand_distance(answer: DistanceAnswer, out: &mut [f32]) -> u8
 {
     match answer {
         DistanceAnswer::Distance(x) => {
-            put(out, &[x]);
+            lent_floats::put(out, &[x]);
             DONE
         }
         DistanceAnswer::Refused(fault) => fault.number(),
+    }
+}
+
+pub fn hand_both(answer: ScissorAnswer, out: &mut [f32], coverage: &mut [f32]) -> u8
+    requires { ⌜ 10 ≤ length (now out) ⌝ }
+    requires { ⌜ 11 ≤ length (now coverage) ⌝ }
+    ensures { λ r. ⌜ r ≡ (bothBoxHanded answer) .number ⌝ }
+    ensures { λ _. ⌜ now (out .exit) ≡ after (bothBoxHanded answer) (now (out .entry)) ⌝ }
+    ensures { λ _. ⌜ now (coverage .exit) ≡ after (bothCoverageHanded answer) (now (coverage .entry)) ⌝ }
+{
+    match answer {
+        ScissorAnswer::Both(b, k) => {
+            lent_floats::put_box(out, b);
+            lent_floats::put_coverage(coverage, k);
+            DONE
+        }
+        ScissorAnswer::NoBox => NONE,
+        ScissorAnswer::Refused(fault) => fault.number(),
+    }
+}
+
+fn hand_rect_fill(fill: RectFill, out: &mut [f32]) -> u8
+    requires { ⌜ 10 ≤ length (now out) ⌝ }
+    ensures { λ r. ⌜ r ≡ (rectFillHanded fill) .number ⌝ }
+    ensures { λ _. ⌜ now (out .exit) ≡ after (rectFillHanded fill) (now (out .entry)) ⌝ }
+{
+    match fill {
+        RectFill::Shared(b) => {
+            lent_floats::put_box(out, b);
+            SHARED
+        }
+        RectFill::Covered(b) => {
+            lent_floats::put_box(out, b);
+            COVERED
+        }
+    }
+}
+
+pub fn hand_fill(answer: FillAnswer, out: &mut [f32]) -> u8
+    requires { ⌜ 10 ≤ length (now out) ⌝ }
+    ensures { λ r. ⌜ r ≡ (fillHanded answer) .number ⌝ }
+    ensures { λ _. ⌜ now (out .exit) ≡ after (fillHanded answer) (now (out .entry)) ⌝ }
+{
+    match answer {
+        FillAnswer::Fill(fill) => hand_rect_fill(fill, out),
+        FillAnswer::NoBox => NONE,
+        FillAnswer::Refused(fault) => fault.number(),
+    }
+}
+
+pub fn hand_reach(reach: MaybeBounds, out: &mut [f32]) -> u8
+    requires { ⌜ 4 ≤ length (now out) ⌝ }
+    ensures { λ r. ⌜ r ≡ (reachHanded reach) .number ⌝ }
+    ensures { λ _. ⌜ now (out .exit) ≡ after (reachHanded reach) (now (out .entry)) ⌝ }
+{
+    match reach {
+        MaybeBounds::Bounds(b) => {
+            lent_floats::put_bounds(out, b);
+            DONE
+        }
+        MaybeBounds::Everywhere => NONE,
     }
 }
 

@@ -51,14 +51,6 @@ fn kept(s: State, run: usize, next: usize, problem: Problem) -> State {
     }
 }
 
-// Answers a call on an outline or on boxes.
-fn on_boxes(line: &[u8; MOST_LINE], name: Field) -> Problem {
-    if fields::is(line, name, b"fit") {
-        return outline_calls::fit(line, name.end);
-    }
-    box_calls::answer(line, name)
-}
-
 // Answers a line, if it holds a call.
 fn answer(
     line: &[u8; MOST_LINE],
@@ -80,7 +72,7 @@ fn answer(
         let problem = mask_calls::lay(line, name.end, run, s.run, next, s.next);
         return kept(s, s.run, s.next, problem);
     }
-    kept(s, s.run, s.next, on_boxes(line, name))
+    kept(s, s.run, s.next, shape_calls::answer(line, name))
 }
 
 fn one_more(n: u64) -> u64 {

@@ -1,4 +1,4 @@
--- Limits: the fixed number. Distance: the distance from a box's edge, and what lies inside. Calls: the public calls.
+-- Limits: the fixed numbers. Distance: the distance from a box's edge, and what lies inside. Calls: the public calls.
 pub mod Limits
 pub mod Distance
 pub mod Calls

@@ -50,6 +50,9 @@ impl ClipCoverage {
     // How far, in fringe widths, a box may stray out of another and still lie inside it.
     pub const CONTAINMENT_SLACK: f32 = 0.5;
 
+    // How far, in fringe widths, a draw may reach past a clip's edge and still be inside it: 1 / 64.
+    pub const DRAW_SLACK: f32 = 0.015625;
+
     // ---- distance
 
     // A point in this frame.
@@ -134,6 +137,14 @@ impl ClipCoverage {
         let distance = self.edge_distance(u, side, corner);
         let round = self.round(corner);
         Located { distance, round }
+    }
+
+    // The second of these alone. A second caller of `locate` would cost every distance its `round`.
+    pub fn off_round_corner(self, p: Position) -> bool
+        ensures { λ r. ⌜ r ≡ locateOf self p .round ⌝ }
+    {
+        let side = self.side(self.framed(p));
+        self.round(self.corner(side))
     }
 
     pub fn distance_unchecked(self, p: Position) -> f32

@@ -258,7 +258,7 @@ fn closed(walk: Walk, xs: &[f32; MOST_POINTS], ys: &[f32; MOST_POINTS]) -> Maybe
     parallelogram(start, xs, ys, n)
 }
 
-fn fit_unchecked(verbs: &[u8], positions: &[f32]) -> MaybeBox
+pub fn fit_unchecked(verbs: &[u8], positions: &[f32]) -> MaybeBox
     requires { ⌜ length (now verbs) ≤ mostVerbs ⌝ }
     requires { ⌜ floatsNeededOf (now verbs) ≡ length (now positions) ⌝ }
     ensures { λ r. ⌜ r ≡ fitOf (now (verbs .entry)) (now (positions .entry)) ⌝ }

@@ -3,52 +3,111 @@ use fields::MOST_FLOATS;
 use fields::MOST_LINE;
 use fields::MOST_VERBS;
 use fields::Problem;
+ghost use Prim.Native.Nat.{_≤_};
 
-// The box of the first verbs and floats of two lists.
-fn fit_lent(verbs: &[u8], verb_count: usize, floats: &[f32], float_count: usize) -> Problem {
+enum OutlineCall {
+    Fit,
+    UprightRect,
+}
+
+// How many floats a frame takes.
+const FRAME: usize = 6;
+
+// How many floats a call takes behind the outline's positions.
+fn behind(call: OutlineCall) -> usize
+    ensures { λ r. ⌜ r ≤ 6 ⌝ }
+{
+    match call {
+        OutlineCall::Fit => 0,
+        OutlineCall::UprightRect => FRAME,
+    }
+}
+
+// ---- each call, from an outline and what stands behind it
+
+fn answer_fit(verbs: &[u8], positions: &[f32]) -> Problem {
+    answers::boxed(fit::fit(verbs, positions));
+    Problem::Nothing
+}
+
+fn answer_upright_rect(verbs: &[u8], positions: &[f32], frame: &[f32]) -> Problem {
+    if frame.len() < FRAME {
+        return Problem::TooManyFloats;
+    }
+    let transform = boxes::frame_at(frame, 0);
+    answers::boxed(upright_rect::upright_rect(verbs, positions, transform));
+    Problem::Nothing
+}
+
+fn answer_parts(call: OutlineCall, verbs: &[u8], positions: &[f32], behind: &[f32]) -> Problem {
+    match call {
+        OutlineCall::Fit => answer_fit(verbs, positions),
+        OutlineCall::UprightRect => answer_upright_rect(verbs, positions, behind),
+    }
+}
+
+// Answers from the first verbs and floats of two lists, and the floats behind those. A part `0..n` is
+// proved by itself, and `..n` asks for a proof file.
+fn answer_lent(
+    call: OutlineCall,
+    verbs: &[u8],
+    verb_count: usize,
+    floats: &[f32],
+    float_count: usize,
+) -> Problem {
     if verb_count > verbs.len() {
         return Problem::TooManyVerbs;
     }
     if float_count > floats.len() {
         return Problem::TooManyFloats;
     }
-    answers::boxed(fit::fit(&verbs[..verb_count], &floats[..float_count]));
-    Problem::Nothing
+    answer_parts(
+        call,
+        &verbs[0..verb_count],
+        &floats[0..float_count],
+        &floats[float_count..],
+    )
 }
 
-fn fit_lists(
+fn answer_lists(
+    call: OutlineCall,
     verbs: &[u8; MOST_VERBS],
     verb_count: usize,
     floats: &[f32; MOST_FLOATS],
     float_count: usize,
 ) -> Problem {
-    fit_lent(verbs, verb_count, floats, float_count)
+    answer_lent(call, verbs, verb_count, floats, float_count)
 }
 
-// The outline's positions, and the answer.
-fn fit_positions(
+// ---- an outline's verbs and floats
+
+// The outline's positions, what stands behind them, and the answer.
+fn of_positions(
+    call: OutlineCall,
     line: &[u8; MOST_LINE],
     at: usize,
     verbs: &[u8; MOST_VERBS],
     verb_count: usize,
 ) -> Problem {
     let mut floats = [0f32; MOST_FLOATS];
+    let behind = behind(call);
     let count = fields::size_at(line, at);
+    let n = count.value;
     if !count.good {
         return Problem::NotANumber;
     }
-    if count.value > MOST_FLOATS {
+    if n > MOST_FLOATS - behind {
         return Problem::TooManyFloats;
     }
-    let list = fields::last_floats(line, count.at, count.value, &mut floats);
+    let list = fields::last_floats(line, count.at, n + behind, &mut floats);
     let problem = list.problem;
     let Problem::Nothing = problem else {
         return problem;
     };
-    fit_lists(verbs, verb_count, &floats, list.count)
+    answer_lists(call, verbs, verb_count, &floats, n)
 }
 
-pub fn fit(line: &[u8; MOST_LINE], at: usize) -> Problem {
+fn of_verbs(call: OutlineCall, line: &[u8; MOST_LINE], at: usize) -> Problem {
     let mut verbs = [0u8; MOST_VERBS];
     let count = fields::size_at(line, at);
     if !count.good {
@@ -62,5 +121,13 @@ pub fn fit(line: &[u8; MOST_LINE], at: usize) -> Problem {
     let Problem::Nothing = problem else {
         return problem;
     };
-    fit_positions(line, list.at, &verbs, list.count)
+    of_positions(call, line, list.at, &verbs, list.count)
+}
+
+pub fn fit(line: &[u8; MOST_LINE], at: usize) -> Problem {
+    of_verbs(OutlineCall::Fit, line, at)
+}
+
+pub fn upright_rect(line: &[u8; MOST_LINE], at: usize) -> Problem {
+    of_verbs(OutlineCall::UprightRect, line, at)
 }

@@ -180,9 +180,7 @@ pub fn intersection_within_unchecked(
 pub fn intersection(one: RoundedBox, two: RoundedBox, fringe: f32) -> BoxAnswer
     ensures { λ r. ⌜ r ≡ intersectionCall one two fringe ⌝ }
 {
-    if let Check::Refused(fault) = beside::pair_check(one, two).and_then(shape::fringe_check(
-        fringe,
-    )) {
+    if let Check::Refused(fault) = beside::pair_fringe_check(one, two, fringe) {
         return BoxAnswer::Refused(fault);
     }
     intersection_within_unchecked(one, two, fringe, ClipCoverage::CONTAINMENT_SLACK).answer()

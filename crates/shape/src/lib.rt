@@ -8,7 +8,7 @@ ghost use mathlib.Core.Bool.{_&&_};
 ghost use Prim.Native.Nat.{_<_};
 ghost use Rattle.shape.specs.Checks.{inRangeOf, bothInRangeOf, frameInRangeOf, boxInRangeOf, improperSideOf, improperOf};
 ghost use Rattle.shape.specs.Checks.{boxCheckOf, numbersCheckOf, frameCheckOf, fringeCheckOf, pointCheckOf};
-ghost use Rattle.shape.specs.Outline.{cornerAtOf, boundsOf, outlinePointOf};
+ghost use Rattle.shape.specs.Outline.{transformedOf, cornerAtOf, boundsOf, outlinePointOf};
 ghost use Rattle.shape.specs.Calls.{boxAnswer, transformedCall, boundsCall};
 use fault::Check;
 use fault::Fault;
@@ -163,6 +163,22 @@ impl RoundedBox {
         Check::Refused(Fault::NumberOutOfRange)
     }
 
+    // ---- transformed
+
+    pub fn transformed_unchecked(self, transform: Transform2D) -> Self
+        ensures { λ r. ⌜ r ≡ transformedOf self transform ⌝ }
+    {
+        let frame = self.frame;
+        let carried = frame.mul(transform);
+        Self {
+            frame: carried,
+            ex: self.ex,
+            ey: self.ey,
+            rx: self.rx,
+            ry: self.ry,
+        }
+    }
+
     // The box under `transform`: its frame carried along.
     // Ruled out: the product turned round; the half extents scaled with the frame.
     pub fn transformed(self, transform: Transform2D) -> BoxAnswer
@@ -171,15 +187,7 @@ impl RoundedBox {
         if let Check::Refused(fault) = self.check().and_then(frame_check(transform)) {
             return BoxAnswer::Refused(fault);
         }
-        let frame = self.frame;
-        let carried = frame.mul(transform);
-        BoxAnswer::Box(Self {
-            frame: carried,
-            ex: self.ex,
-            ey: self.ey,
-            rx: self.rx,
-            ry: self.ry,
-        })
+        BoxAnswer::Box(self.transformed_unchecked(transform))
     }
 
     // ---- bounds

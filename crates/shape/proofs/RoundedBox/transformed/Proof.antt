@@ -13,7 +13,7 @@ returns c =
 
 returns-2 : tie.Need-returns-2
 returns-2 c =
-    let at-enum-told = c .before .before in
+    let at-enum-told = c .before in
     let at-and-then = at-enum-told .before .before in
     let at-frame-check = at-and-then .before in
     let at-check = at-frame-check .before in
@@ -22,7 +22,7 @@ returns-2 c =
       ← at-frame-check .frame-check .ensures,
       ← at-and-then .and-then .ensures,
       at-enum-told .enum-told .given .1,
-      c .mul .ensures,
+      ← c .transformed-unchecked .ensures,
     )
 
 pub transformed-spec : {M : Type 1} → statement M

@@ -1,0 +1,2 @@
+-- Calls: what each call on lent floats answers.
+pub mod Calls

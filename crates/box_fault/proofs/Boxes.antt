@@ -1,0 +1,109 @@
+-- A box's check, and that of two boxes and a fringe, by their causes (specs/Causes.antt). Assumes nothing.
+use mathlib.Core.Path.{_≡_, refl, sym}
+use mathlib.Core.Bool.{Bool, true, false, _&&_}
+use mathlib.Core.Logic.{_⊎_, inl, inr}
+use mathlib.Core.List.{[], _∷_}
+use lib.Ieee.{Float, lt}
+use Rattle.float.specs.Ops.{f0}
+use Rattle.fault.specs.declared.Fault.{Fault}
+use Rattle.fault.specs.declared.Fault.the-variants.{NumberOutOfRange, ImproperBox}
+use Rattle.fault.specs.declared.Check.the-variants as check
+use Rattle.geometry.specs.declared.Transform2D.{Transform2D}
+use Rattle.shape.specs.declared.RoundedBox.{RoundedBox}
+use Rattle.shape.specs.Checks.{inRangeOf, bothInRangeOf, frameInRangeOf, boxInRangeOf, improperSideOf, improperOf, boxCheckOf}
+use Rattle.beside.specs.Calls.{pairFringeCheckOf}
+use Rattle.cells.proofs.Sizes.{or-true}
+use Rattle.outline.specs.Outline.{allInRangeOf}
+use Rattle.box_fault.specs.Causes.{InRange, frameNumbers, boxNumbers, ImproperSide, ProperSide, BoxFault, number, improper, Faultless, PairFault, of-first, of-second, of-fringe}
+use Rattle.box_fault.proofs.Decided.{Decided}
+
+-- ---- numbers: a check's nested tests are one test of a list
+
+and-assoc : (p q r : Bool) → ((p && q) && r) ≡ (p && (q && r))
+and-assoc true q r = refl
+and-assoc false q r = refl
+
+and-true : (p : Bool) → (p && true) ≡ p
+and-true true = refl
+and-true false = refl
+
+pub frame-numbers : (t : Transform2D) → frameInRangeOf t ≡ allInRangeOf (frameNumbers t)
+unfolding frameInRangeOf bothInRangeOf allInRangeOf
+frame-numbers t = simp (and-assoc, and-true)
+
+pub box-numbers : (b : RoundedBox) → boxInRangeOf b ≡ allInRangeOf (boxNumbers b)
+unfolding boxInRangeOf frameInRangeOf bothInRangeOf allInRangeOf
+box-numbers b = simp (and-assoc, and-true)
+
+fringe-number : (fringe : Float) → inRangeOf fringe ≡ allInRangeOf (fringe ∷ [])
+unfolding allInRangeOf
+fringe-number fringe = sym (and-true (inRangeOf fringe))
+
+-- ---- one side, and one box
+
+side-improper : (extent radius : Float) → ImproperSide extent radius → improperSideOf extent radius ≡ true
+unfolding improperSideOf
+side-improper extent radius (inl h) = rw h
+side-improper extent radius (inr (inl h)) = rw h (or-true (lt extent f0))
+side-improper extent radius (inr (inr h)) = rw (h, or-true (lt radius f0)) (or-true (lt extent f0))
+
+side-proper : (extent radius : Float) → ProperSide extent radius → improperSideOf extent radius ≡ false
+unfolding improperSideOf
+side-proper extent radius h = rw (h .0, h .1, h .2)
+
+side-decided : (extent radius : Float) → ProperSide extent radius ⊎ ImproperSide extent radius
+side-decided extent radius = go (lt extent f0) (lt radius f0) (lt extent radius) refl refl refl
+  where
+    go : (a b c : Bool) → lt extent f0 ≡ a → lt radius f0 ≡ b → lt extent radius ≡ c → ProperSide extent radius ⊎ ImproperSide extent radius
+    go true b c e f g = inr (inl e)
+    go false true c e f g = inr (inr (inl f))
+    go false false true e f g = inr (inr (inr g))
+    go false false false e f g = inl (e, f, g)
+
+either-improper : (b : RoundedBox) → ImproperSide (b .ex) (b .rx) ⊎ ImproperSide (b .ey) (b .ry) → improperOf b ≡ true
+unfolding improperOf
+either-improper b (inl h) = rw (side-improper (b .ex) (b .rx) h)
+either-improper b (inr h) = rw (side-improper (b .ey) (b .ry) h) (or-true (improperSideOf (b .ex) (b .rx)))
+
+pub box-refused : (b : RoundedBox) (f : Fault) → BoxFault b f → boxCheckOf b ≡ check.Refused f
+unfolding boxCheckOf
+box-refused b f (number h) = rw (box-numbers b, h)
+box-refused b f (improper h i) = rw (box-numbers b, h, either-improper b i)
+
+pub box-passes : (b : RoundedBox) → Faultless b → boxCheckOf b ≡ check.Pass
+unfolding boxCheckOf improperOf
+box-passes b h = rw (box-numbers b, h .in-range, side-proper (b .ex) (b .rx) (h .proper-x), side-proper (b .ey) (b .ry) (h .proper-y))
+
+pub box-decided : (b : RoundedBox) → Decided (Faultless b) (BoxFault b)
+box-decided b = go (allInRangeOf (boxNumbers b)) (side-decided (b .ex) (b .rx)) (side-decided (b .ey) (b .ry)) refl
+  where
+    go : (good : Bool) → ProperSide (b .ex) (b .rx) ⊎ ImproperSide (b .ex) (b .rx) → ProperSide (b .ey) (b .ry) ⊎ ImproperSide (b .ey) (b .ry)
+        → allInRangeOf (boxNumbers b) ≡ good → Decided (Faultless b) (BoxFault b)
+    go false x y e = inr (NumberOutOfRange, number e)
+    go true (inr x) y e = inr (ImproperBox, improper e (inl x))
+    go true (inl x) (inr y) e = inr (ImproperBox, improper e (inr y))
+    go true (inl x) (inl y) e = inl (record { in-range = e; proper-x = x; proper-y = y })
+
+-- ---- two boxes and a fringe
+
+module _ (one two : RoundedBox) (fringe : Float) where
+  pub pair-refused : (f : Fault) → PairFault one two fringe f → pairFringeCheckOf one two fringe ≡ check.Refused f
+  pair-refused f (of-first e) = rw (box-refused one f e)
+  pair-refused f (of-second g e) = rw (box-passes one g, box-refused two f e)
+  pair-refused f (of-fringe g h e) = rw (box-passes one g, box-passes two h, fringe-number fringe, e)
+
+  abbrev pub PairFaultless : Type 0
+  PairFaultless = Faultless one × Faultless two × InRange (fringe ∷ [])
+
+  pub pair-passes : PairFaultless → pairFringeCheckOf one two fringe ≡ check.Pass
+  pair-passes h = rw (box-passes one (h .0), box-passes two (h .1), fringe-number fringe, h .2)
+
+  pub pair-decided : Decided PairFaultless (PairFault one two fringe)
+  pair-decided = go (box-decided one) (box-decided two) (allInRangeOf (fringe ∷ [])) refl
+    where
+      go : Decided (Faultless one) (BoxFault one) → Decided (Faultless two) (BoxFault two) → (good : Bool) → allInRangeOf (fringe ∷ []) ≡ good
+          → Decided PairFaultless (PairFault one two fringe)
+      go (inr (f, e)) d good h = inr (f, of-first e)
+      go (inl g) (inr (f, e)) good h = inr (f, of-second g e)
+      go (inl g) (inl k) false h = inr (NumberOutOfRange, of-fringe g k h)
+      go (inl g) (inl k) true h = inl (g, k, h)

@@ -1,0 +1,95 @@
+-- Why a call on boxes or on an outline is refused, in the documents' order, said of what is given and not by the checks.
+-- Each cause is given with none before it. Definitions only.
+use mathlib.Core.Path.{_≡_}
+use mathlib.Core.Bool.{true, false}
+use mathlib.Core.Logic.{_⊎_}
+use mathlib.Core.List.{List, [], _∷_}
+use Prim.Native.Nat.{ℕ, _≤_, _<_}
+use lib.Ieee.{Float, lt}
+use lib.ListN.{length}
+use Rattle.float.specs.Ops.{f0}
+use Rattle.fault.specs.declared.Fault.{Fault}
+use Rattle.fault.specs.declared.Fault.the-variants.{NumberOutOfRange, ImproperBox, UnknownVerb, PositionsMismatch, CurveVerb, TooManyVerbs}
+use Rattle.geometry.specs.declared.Transform2D.{Transform2D}
+use Rattle.shape.specs.declared.RoundedBox.{RoundedBox}
+use Rattle.outline.specs.Outline.{floatsNeededOf, allInRangeOf}
+
+-- ---- numbers
+
+-- number 1: some number 'is not finite, or its size is over 2^20'; and none is so
+abbrev pub OutOfRange : List Float → Type 0
+OutOfRange xs = allInRangeOf xs ≡ false
+
+abbrev pub InRange : List Float → Type 0
+InRange xs = allInRangeOf xs ≡ true
+
+abbrev pub frameNumbers : Transform2D → List Float
+frameNumbers t = t .a ∷ t .b ∷ t .c ∷ t .d ∷ t .x ∷ t .y ∷ []
+
+-- a box's ten numbers: its frame, half extents and radii
+abbrev pub boxNumbers : RoundedBox → List Float
+boxNumbers b =
+    b .frame .a ∷ b .frame .b ∷ b .frame .c ∷ b .frame .d ∷ b .frame .x ∷ b .frame .y ∷ b .ex ∷ b .ey ∷ b .rx ∷ b .ry ∷ []
+
+-- ---- one box
+
+-- number 2: 'a half extent or radius below 0, or a radius over its half extent'
+abbrev pub ImproperSide : Float → Float → Type 0
+ImproperSide extent radius = (lt extent f0 ≡ true) ⊎ ((lt radius f0 ≡ true) ⊎ (lt extent radius ≡ true))
+
+abbrev pub ProperSide : Float → Float → Type 0
+ProperSide extent radius = (lt extent f0 ≡ false) × (lt radius f0 ≡ false) × (lt extent radius ≡ false)
+
+-- 'per box 1, 2'
+pub data BoxFault (b : RoundedBox) : Fault → Type 0 where
+  number : OutOfRange (boxNumbers b) → BoxFault b NumberOutOfRange
+  improper : InRange (boxNumbers b) → ImproperSide (b .ex) (b .rx) ⊎ ImproperSide (b .ey) (b .ry) → BoxFault b ImproperBox
+
+pub record Faultless (b : RoundedBox) : Type 0 where
+  pub in-range : InRange (boxNumbers b)
+  pub proper-x : ProperSide (b .ex) (b .rx)
+  pub proper-y : ProperSide (b .ey) (b .ry)
+
+-- ---- two boxes and a fringe: 'first box before second, then 1 for a lone .. fringe'
+pub data PairFault (one two : RoundedBox) (fringe : Float) : Fault → Type 0 where
+  of-first : {f : Fault} → BoxFault one f → PairFault one two fringe f
+  of-second : {f : Fault} → Faultless one → BoxFault two f → PairFault one two fringe f
+  of-fringe : Faultless one → Faultless two → OutOfRange (fringe ∷ []) → PairFault one two fringe NumberOutOfRange
+
+-- ---- an outline: '11, then verbs in order (8 or 10 at the first verb at fault), 9, then 1 for positions'
+
+-- 'a verb byte above 5' is 8, 'a curve verb given to the fitter', which is 2, is 10
+pub data VerbFault (byte : ℕ) : Fault → Type 0 where
+  unknown : 5 < byte → VerbFault byte UnknownVerb
+  curve : byte ≡ 2 → VerbFault byte CurveVerb
+
+abbrev pub Straight : ℕ → Type 0
+Straight byte = (byte ≤ 5) × (byte ≡ 2 → ⊥)
+
+-- the first verb at fault, and none
+pub data FirstVerb : List ℕ → Fault → Type 0 where
+  here : {byte : ℕ} {bytes : List ℕ} {f : Fault} → VerbFault byte f → FirstVerb (byte ∷ bytes) f
+  later : {byte : ℕ} {bytes : List ℕ} {f : Fault} → Straight byte → FirstVerb bytes f → FirstVerb (byte ∷ bytes) f
+
+abbrev pub AllStraight : List ℕ → Type 0
+AllStraight [] = Unit
+AllStraight (byte ∷ bytes) = Straight byte × AllStraight bytes
+
+pub data OutlineFault (verbs : List ℕ) (positions : List Float) : Fault → Type 0 where
+  too-many : 256 < length verbs → OutlineFault verbs positions TooManyVerbs
+  of-verb : {f : Fault} → length verbs ≤ 256 → FirstVerb verbs f → OutlineFault verbs positions f
+  mismatch : length verbs ≤ 256 → AllStraight verbs → (floatsNeededOf verbs ≡ length positions → ⊥)
+      → OutlineFault verbs positions PositionsMismatch
+  of-position : length verbs ≤ 256 → AllStraight verbs → floatsNeededOf verbs ≡ length positions → OutOfRange positions
+      → OutlineFault verbs positions NumberOutOfRange
+
+pub record FaultlessOutline (verbs : List ℕ) (positions : List Float) : Type 0 where
+  pub few : length verbs ≤ 256
+  pub straight : AllStraight verbs
+  pub match : floatsNeededOf verbs ≡ length positions
+  pub in-range : InRange positions
+
+-- ---- an outline and a frame. Document 02, change 1: 'Whatever else is given with an outline is checked after it'
+pub data OutlineFrameFault (verbs : List ℕ) (positions : List Float) (t : Transform2D) : Fault → Type 0 where
+  of-outline : {f : Fault} → OutlineFault verbs positions f → OutlineFrameFault verbs positions t f
+  of-frame : FaultlessOutline verbs positions → OutOfRange (frameNumbers t) → OutlineFrameFault verbs positions t NumberOutOfRange

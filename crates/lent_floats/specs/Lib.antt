@@ -1,0 +1,2 @@
+-- Lent: boxes, coverages and bounds as lent floats.
+pub mod Lent

@@ -1,0 +1,3 @@
+-- Scissor: a clip and a scissor. Calls: the public calls.
+pub mod Scissor
+pub mod Calls
