@@ -61,12 +61,10 @@ enum {
     BEAMNETTLE_NONE = 32, /* there is no box, no coverage, or no bounds */
     BEAMNETTLE_YES = 33,
     BEAMNETTLE_NO = 34,
-    /* beamnettle_touch alone: */
-    BEAMNETTLE_NO_FRAME = 35,
-    BEAMNETTLE_FIRST_PLACE = 256, /* the box at place k, counted from 0, is 256 + k */
-    /* beamnettle_rect_fill alone, and a box is written: */
-    BEAMNETTLE_SHARED = 36,
-    BEAMNETTLE_COVERED = 37
+    BEAMNETTLE_NO_FRAME = 35,    /* beamnettle_touch: no box is touched */
+    BEAMNETTLE_SHARED = 36,      /* beamnettle_rect_fill: a box is written, which the two share */
+    BEAMNETTLE_COVERED = 37,     /* beamnettle_rect_fill: a box is written, around the clip */
+    BEAMNETTLE_FIRST_PLACE = 256 /* beamnettle_touch: the box at place k, counted from 0, is 256 + k */
 };
 
 /* How many floats there are in a box (frame a b c d x y, half extents, radii), a frame, a coverage

@@ -51,7 +51,8 @@ fn eleven_floats(k: ClipCoverage) {
     writing::write_float(k.strays);
 }
 
-fn name_and_box(name: &[u8], b: RoundedBox) {
+// A line that names what a box is.
+fn box_line(name: &[u8], b: RoundedBox) {
     writing::write(name);
     ten_floats(b);
     writing::write(b"\n");
@@ -59,13 +60,13 @@ fn name_and_box(name: &[u8], b: RoundedBox) {
 
 pub fn boxed(answer: BoxAnswer) {
     match answer {
-        BoxAnswer::Box(b) => name_and_box(b"box", b),
+        BoxAnswer::Box(b) => box_line(b"box", b),
         BoxAnswer::NoBox => no_box(),
         BoxAnswer::Refused(fault) => refused(fault),
     }
 }
 
-fn name_and_coverage(k: ClipCoverage) {
+fn coverage_line(k: ClipCoverage) {
     writing::write(b"cov");
     eleven_floats(k);
     writing::write(b"\n");
@@ -73,13 +74,13 @@ fn name_and_coverage(k: ClipCoverage) {
 
 pub fn coverage(answer: CoverageAnswer) {
     match answer {
-        CoverageAnswer::Coverage(k) => name_and_coverage(k),
+        CoverageAnswer::Coverage(k) => coverage_line(k),
         CoverageAnswer::NoCoverage => no_box(),
         CoverageAnswer::Refused(fault) => refused(fault),
     }
 }
 
-fn box_and_coverage(b: RoundedBox, k: ClipCoverage) {
+fn both_line(b: RoundedBox, k: ClipCoverage) {
     writing::write(b"both");
     ten_floats(b);
     eleven_floats(k);
@@ -88,22 +89,22 @@ fn box_and_coverage(b: RoundedBox, k: ClipCoverage) {
 
 pub fn both(answer: ScissorAnswer) {
     match answer {
-        ScissorAnswer::Both(b, k) => box_and_coverage(b, k),
+        ScissorAnswer::Both(b, k) => both_line(b, k),
         ScissorAnswer::NoBox => no_box(),
         ScissorAnswer::Refused(fault) => refused(fault),
     }
 }
 
-fn rect_fill(fill: RectFill) {
+fn fill_line(fill: RectFill) {
     match fill {
-        RectFill::Shared(b) => name_and_box(b"shared", b),
-        RectFill::Covered(b) => name_and_box(b"covered", b),
+        RectFill::Shared(b) => box_line(b"shared", b),
+        RectFill::Covered(b) => box_line(b"covered", b),
     }
 }
 
 pub fn filled(answer: FillAnswer) {
     match answer {
-        FillAnswer::Fill(fill) => rect_fill(fill),
+        FillAnswer::Fill(fill) => fill_line(fill),
         FillAnswer::NoBox => no_box(),
         FillAnswer::Refused(fault) => refused(fault),
     }
@@ -111,7 +112,7 @@ pub fn filled(answer: FillAnswer) {
 
 // ---- bounds, numbers, tests
 
-fn four_floats(b: Bounds) {
+fn bounds_line(b: Bounds) {
     writing::write(b"bounds");
     writing::four(b.minx, b.miny, b.maxx, b.maxy);
     writing::write(b"\n");
@@ -119,14 +120,14 @@ fn four_floats(b: Bounds) {
 
 pub fn bounds(answer: BoundsAnswer) {
     match answer {
-        BoundsAnswer::Bounds(b) => four_floats(b),
+        BoundsAnswer::Bounds(b) => bounds_line(b),
         BoundsAnswer::Refused(fault) => refused(fault),
     }
 }
 
 pub fn reach(answer: MaybeBounds) {
     match answer {
-        MaybeBounds::Bounds(b) => four_floats(b),
+        MaybeBounds::Bounds(b) => bounds_line(b),
         MaybeBounds::Everywhere => writing::write(b"everywhere\n"),
     }
 }

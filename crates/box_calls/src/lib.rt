@@ -1,4 +1,4 @@
-// The calls on boxes: from their floats, and the touch list from its line.
+// The calls on boxes, from their floats; the touch list, from its line.
 use fields::MOST_BOXES;
 use fields::MOST_FLOATS;
 use fields::MOST_LINE;

@@ -128,7 +128,7 @@ impl ClipCoverage {
     }
 
     // A position's distance, and whether it lies off one of the box's round corners or off a side.
-    pub fn locate(self, p: Position) -> Located
+    fn locate(self, p: Position) -> Located
         ensures { λ r. ⌜ r ≡ locateOf self p ⌝ }
     {
         let u = self.framed(p);
@@ -139,7 +139,8 @@ impl ClipCoverage {
         Located { distance, round }
     }
 
-    // The second of these alone. A second caller of `locate` would cost every distance its `round`.
+    // Whether it lies off a round corner, alone. With a second caller of `locate` the compiler would leave
+    // `round` in every distance.
     pub fn off_round_corner(self, p: Position) -> bool
         ensures { λ r. ⌜ r ≡ locateOf self p .round ⌝ }
     {

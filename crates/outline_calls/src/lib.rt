@@ -30,6 +30,7 @@ fn answer_fit(verbs: &[u8], positions: &[f32]) -> Problem {
     Problem::Nothing
 }
 
+// A frame has been read behind the positions: too few floats are left only where those are too many.
 fn answer_upright_rect(verbs: &[u8], positions: &[f32], frame: &[f32]) -> Problem {
     if frame.len() < FRAME {
         return Problem::TooManyFloats;

@@ -1,4 +1,4 @@
-// The calls on outlines, boxes and coverages: each is found by its name, and its floats are read.
+// The calls on outlines, boxes and coverages, by their names.
 use fields::Field;
 use fields::MOST_FLOATS;
 use fields::MOST_LINE;
@@ -22,7 +22,7 @@ enum FloatCall {
     Unknown,
 }
 
-// ---- names
+// ---- names: each function has its own, and goes on to the next function's
 
 // The calls on one box.
 fn call(line: &[u8; MOST_LINE], name: Field) -> FloatCall {
