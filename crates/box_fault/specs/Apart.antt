@@ -6,13 +6,14 @@ use lib.Ieee.{Float, binary32, ofBits}
 use Rattle.float.specs.Ops.{f0, f½, f1}
 use Rattle.fault.specs.declared.Fault.{Fault}
 use Rattle.fault.specs.declared.Fault.the-variants.{NumberOutOfRange, ImproperBox}
-use Rattle.fault.specs.declared.Check.the-variants as check
 use Rattle.geometry.specs.declared.Position.{Position}
 use Rattle.shape.specs.declared.RoundedBox.{RoundedBox}
 use Rattle.shape.specs.declared.BoxAnswer.the-variants as box
 use Rattle.covering.specs.declared.CoverageAnswer.the-variants as covered
 use Rattle.covering.specs.Calls.{coverageCall}
-use Rattle.touch.specs.Touch.{touchCheckOf}
+use Rattle.touch.specs.declared.TouchAnswer.{TouchAnswer}
+use Rattle.touch.specs.declared.TouchAnswer.the-variants as touched
+use Rattle.touch.specs.Touch.{TouchRule}
 use Rattle.scissor.specs.declared.ScissorAnswer.the-variants as scissor
 use Rattle.scissor.specs.Calls.{withScissorCall, trimmedScissorCall}
 
@@ -74,7 +75,7 @@ pub record TrimMeets (picture window trim : RoundedBox) (f : Fault) : Type 0 whe
   pub trimmed : trimmedScissorCall picture window f1 ≡ box.Box trim
   pub coverage : coverageCall trim f1 ≡ covered.Refused f
   pub with-scissor : withScissorCall window trim f1 ≡ scissor.Refused f
-  pub touch : touchCheckOf (window ∷ trim ∷ []) f1 origin ≡ check.Refused f
+  pub touch : (r : TouchAnswer) → TouchRule (window ∷ trim ∷ []) f1 origin r → r ≡ touched.Refused f
 
 -- 'any later call whose first fault is that box meets number 2, or 1 where a number in it is over 2^20'
 abbrev pub Apart : Type 0
