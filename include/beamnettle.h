@@ -200,7 +200,8 @@ uint8_t beamnettle_reach(const float *coverage, size_t coverage_length, float *o
 uint8_t beamnettle_holds(const float *coverage, size_t coverage_length, const float *bounds, size_t bounds_length);
 
 /* The place of some box that a point touches: one whose coverage exists and whose distance at the point is
- * at most 0. At most 256 boxes are taken.
+ * at most 0.5, the allowance that beamnettle_contains has: the print lays ink to half a fringe width past the
+ * outline. At most 256 boxes are taken.
  * Returns 256 + the place, counted from 0; 35 where there is no such box; or 12, then 1 or 2 for each box in
  * order, then 1 for the fringe or the point. */
 uint32_t beamnettle_touch(const struct beamnettle_box *boxes, size_t boxes_length, float fringe, float x, float y);

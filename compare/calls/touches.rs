@@ -1,5 +1,5 @@
 //! Touch lists. The program answers the first place that is right, and so does the list.
-use crate::list::{up, upright, with, List, Random};
+use crate::list::{up, upright, with, List, Random, LARGEST};
 
 type Box10 = [f32; 10];
 
@@ -55,6 +55,43 @@ fn places(l: &mut List) {
     }
 }
 
+/// Up to half a fringe width past a box, and no float further.
+fn edges(l: &mut List) {
+    l.line("# touch: edges");
+    let square = upright(0.0, 0.0, [4.0; 2], [0.0; 2]);
+    let rounded = upright(0.0, 0.0, [4.0; 2], [2.0; 2]);
+    for fringe in [1.0, 2.0, 0.5, 4.0] {
+        for distance in [-0.5, 0.0, 0.25, 0.5] {
+            let x = 4.0 + distance * fringe;
+            for one in [square, rounded] {
+                l.touch(&[one], fringe, [x, 0.0]);
+                l.touch(&[one], fringe, [up(x), 0.0]);
+                l.touch(&[one], fringe, [1.0, -x]);
+                l.touch(&[one], fringe, [1.0, -up(x)]);
+                l.touch(&[one], fringe, [x, x]);
+            }
+        }
+    }
+    l.touch(&[square], 2.0, [5.000001, 0.0]);
+    l.touch(&[rounded], 1.0, [4.0, 4.0]);
+    let thin = upright(0.0, 0.0, [0.4375, 4.0], [0.0; 2]);
+    for y in [0.0, 4.0, 4.5] {
+        l.touch(&[thin], 1.0, [0.0, y]);
+        l.touch(&[thin, square], 1.0, [0.0, y]);
+    }
+    // The distance is a NaN.
+    let far = upright(LARGEST, LARGEST, [4.0; 2], [0.0; 2]);
+    for fringe in [1.0, 1e-36] {
+        l.touch(&[far], fringe, [LARGEST; 2]);
+    }
+    // Between two boxes the gap is one fringe wide; a point in its middle is half of it from either.
+    let pair = [square, upright(9.0, 0.0, [4.0; 2], [0.0; 2])];
+    for x in [f32::from_bits(4.5f32.to_bits() - 1), 4.5, up(4.5)] {
+        l.touch(&pair, 1.0, [x, 0.0]);
+        l.touch(&pair, 0.5, [x, 0.0]);
+    }
+}
+
 /// Numbers 12, 1 and 2, and their order.
 fn refusals(l: &mut List) {
     l.line("# touch: numbers 12, 1 and 2, and their order");
@@ -107,6 +144,7 @@ fn random(l: &mut List) {
 
 pub fn touches(l: &mut List) {
     places(l);
+    edges(l);
     refusals(l);
     random(l);
 }

@@ -304,7 +304,7 @@ pub fn contains(c: Coverage11, b: Box10) -> Result<bool, Refused> {
     Ok(covering(&c).contains(&boxed(b)))
 }
 
-/// The places of all boxes that a point touches.
+/// The places of all boxes that hold a touch: at a distance of at most 0.5.
 pub fn touch(boxes: &[Box10], fringe: f32, point: [f32; 2]) -> Result<Vec<usize>, Refused> {
     if boxes.len() > 256 {
         return Err(BOXES);
@@ -314,7 +314,7 @@ pub fn touch(boxes: &[Box10], fringe: f32, point: [f32; 2]) -> Result<Vec<usize>
     check_all(&point)?;
     let touches = |at: &usize| {
         let coverage = boxed(boxes[*at]).coverage(fringe);
-        coverage.is_some_and(|coverage| coverage.distance(point) <= 0.0)
+        coverage.is_some_and(|coverage| coverage.distance(point) <= 0.5)
     };
     Ok((0..boxes.len()).filter(touches).collect())
 }

@@ -77,6 +77,12 @@ impl Shape {
     pub fn rect_fill(&self, fill: &Shape, fringe: f32) {
         black_box(black_box(&self.0).rect_fill(&fill.0, fringe));
     }
+
+    /// femtovg has no touch: its coverage, then its distance.
+    pub fn touches(&self, fringe: f32, point: [f32; 2]) -> bool {
+        let coverage = black_box(&self.0).coverage(fringe);
+        coverage.is_some_and(|coverage| coverage.distance(point) <= 0.5)
+    }
 }
 
 impl Covering {

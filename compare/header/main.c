@@ -438,7 +438,7 @@ static uint32_t by_array(const float *box, size_t point) {
     if (number != BEAMNETTLE_DONE) return number;
     number = beamnettle_distance(coverage, COVERAGE, x_of(point), y_of(point), &distance, 1);
     if (number != BEAMNETTLE_DONE) return number;
-    return distance <= 0 ? BEAMNETTLE_FIRST_PLACE : BEAMNETTLE_NO_FRAME;
+    return distance <= 0.5f ? BEAMNETTLE_FIRST_PLACE : BEAMNETTLE_NO_FRAME;
 }
 
 /* Whether the two floats exchanged change the answer at some point. */
@@ -472,6 +472,12 @@ static void touching(void) {
     CHECK(beamnettle_touch(boxes, 256, 1, 2551, 3.5f) == BEAMNETTLE_FIRST_PLACE + 255);
     CHECK(beamnettle_touch(boxes, 255, 1, 2551, 3.5f) == BEAMNETTLE_NO_FRAME);
     CHECK(beamnettle_touch(boxes, 257, 1, 0, 3) == BEAMNETTLE_TOO_MANY_BOXES);
+    /* half a fringe width past a side, and the next float; and the same past the sides that meet in a corner */
+    CHECK(beamnettle_touch(boxes, 256, 1, 22.5f, 3) == BEAMNETTLE_FIRST_PLACE + 2);
+    CHECK(beamnettle_touch(boxes, 256, 1, nextafterf(22.5f, 23), 3) == BEAMNETTLE_NO_FRAME);
+    CHECK(beamnettle_touch(boxes, 256, 2, 23, 3) == BEAMNETTLE_FIRST_PLACE + 2);
+    CHECK(beamnettle_touch(boxes, 256, 2, nextafterf(23, 24), 3) == BEAMNETTLE_NO_FRAME);
+    CHECK(beamnettle_touch(boxes, 256, 1, 22.5f, 4.5f) == BEAMNETTLE_FIRST_PLACE + 2);
     boxes[7].radius_y = 2;
     boxes[9].c = INFINITY;
     CHECK(beamnettle_touch(boxes, 256, INFINITY, 0, 3) == BEAMNETTLE_IMPROPER_BOX);

@@ -51,6 +51,27 @@ fn on_frame(random: &mut Random, one: Box10) -> [f32; 2] {
     [x + a * along + c * across, y + b * along + d * across]
 }
 
+/// On a ray from the centre of a box, the last point where it holds a touch by its Rust, or the first where it
+/// does not.
+fn at_edge(random: &mut Random, one: Box10, fringe: f32) -> [f32; 2] {
+    let [a, b, c, d, x, y, width, height, ..] = one;
+    let along = random.float(-2.0, 2.0) * width;
+    let across = random.float(-2.0, 2.0) * height;
+    let (right, down) = (a * along + c * across, b * along + d * across);
+    let point = |t: f32| [x + t * right, y + t * down];
+    let held = |t| calls::touch(&[one], fringe, point(t)).is_ok_and(|places| !places.is_empty());
+    let (mut inside, mut outside) = (0.0, 8.0);
+    for _ in 0..40 {
+        let middle = 0.5 * (inside + outside);
+        if held(middle) {
+            inside = middle;
+        } else {
+            outside = middle;
+        }
+    }
+    point(random.pick(&[inside, outside]))
+}
+
 /// Lists of boxes that lie in one another's way, or so far apart that a point touches few.
 pub fn list(random: &mut Random) -> Call {
     let mut boxes: Vec<Box10> = (0..length(random)).map(|_| proper(random)).collect();
@@ -70,14 +91,15 @@ pub fn list(random: &mut Random) -> Call {
             spoil(random, &mut boxes[at]);
         }
     }
-    let point = if random.one_in(3) {
-        on_frame(random, aim)
-    } else {
-        near(random, aim)
+    let fringe = fringe(random);
+    let point = match random.below(6) {
+        0 => on_frame(random, aim),
+        1 | 2 => at_edge(random, aim, fringe),
+        _ => near(random, aim),
     };
     Call::Touch {
         boxes,
-        fringe: fringe(random),
+        fringe,
         point,
     }
 }

@@ -416,6 +416,33 @@ fn holds() {
     );
 }
 
+/// Turned frames in a row, the last of which is touched.
+fn touches() {
+    let (sin, cos) = (TAU / 12.0).sin_cos();
+    let [sin, cos] = [sin as f32, cos as f32];
+    let frame = |at: usize| {
+        let mut one: Box10 = [cos, sin, -sin, cos, 0.0, 80.0, 50.0, 30.0, 8.0, 8.0];
+        one[4] = 120.0 * at as f32;
+        one
+    };
+    for frames in [4, 256] {
+        let boxes: Vec<Box10> = (0..frames).map(frame).collect();
+        let shapes: Vec<Shape> = boxes.iter().copied().map(Shape::new).collect();
+        let point = [boxes[frames - 1][4], 80.0];
+        assert_eq!(library::touch(&boxes, 1.0, point), 255 + frames as u32);
+        line(
+            &format!("touch, {frames} frames"),
+            &mut || {
+                let held = |shape: &Shape| shape.touches(black_box(1.0), point);
+                assert_eq!(shapes.iter().position(held), Some(frames - 1));
+            },
+            &mut || {
+                black_box(library::touch(black_box(&boxes), 1.0, point));
+            },
+        );
+    }
+}
+
 fn main() {
     println!("| call | old | new | new / old |\n|---|---|---|---|");
     drawings();
@@ -424,4 +451,5 @@ fn main() {
     scissors();
     upright_rect();
     holds();
+    touches();
 }

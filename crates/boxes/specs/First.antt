@@ -11,7 +11,8 @@ use Rattle.boxes.specs.declared.Found.{Found}
 use Rattle.boxes.specs.declared.Found.the-variants as found
 use Rattle.boxes.specs.Checks.{listCheckOf}
 
--- Document 01, 'Touch': a box 'whose coverage exists and whose distance at the point is at most 0'
+-- Document 01, 'Touch': a box 'whose coverage exists and whose distance at the point is at most' 0.5 since document 02,
+-- change 2
 abbrev pub asksOf : Ask → RoundedBox → Bool
 asksOf (ask.Touch fringe x y) b = touchesOf b fringe (record { x = x; y = y })
 asksOf ask.Nothing b = false

@@ -47,7 +47,8 @@ pub enum DistanceAnswer {
 }
 
 impl ClipCoverage {
-    // How far, in fringe widths, a box may stray out of another and still lie inside it.
+    // How far, in fringe widths, a box may stray out of another and still lie inside it, and a touch may
+    // fall past a box and still be held by it.
     pub const CONTAINMENT_SLACK: f32 = 0.5;
 
     // How far, in fringe widths, a draw may reach past a clip's edge and still be inside it: 1 / 64.
@@ -170,7 +171,7 @@ impl ClipCoverage {
     // ---- contains
 
     // Whether a point lies inside, within CONTAINMENT_SLACK.
-    fn holds_point(self, p: Position) -> bool
+    pub fn holds_point(self, p: Position) -> bool
         ensures { λ r. ⌜ r ≡ holdsPointOf self p ⌝ }
     {
         self.distance_unchecked(p) <= Self::CONTAINMENT_SLACK

@@ -1,4 +1,4 @@
--- The fixed numbers of shape.rs and of document 01, each under its own name. Definitions only.
+-- The fixed numbers of shape.rs, each under its own name. Definitions only.
 use lib.Ieee.{Float, binary32, ofBits}
 
 -- MIN_AXIS_SPREAD, 1e-4
@@ -12,7 +12,3 @@ minHalfExtent = ofBits binary32 0x3f00_0000
 -- SQUARE_CORNER_BELOW, 0.5
 abbrev pub squareCornerBelow : Float
 squareCornerBelow = ofBits binary32 0x3f00_0000
-
--- Document 01, 'Touch': 'at most 0'
-abbrev pub touchAllowance : Float
-touchAllowance = ofBits binary32 0

@@ -37,9 +37,6 @@ impl MaybeCoverage {
     // The corner radius, in fringe widths, under which a corner is taken as square.
     const SQUARE_CORNER_BELOW: f32 = 0.5;
 
-    // Document 01, 'Touch': a box is hit where the distance at the point is at most this.
-    const TOUCH_ALLOWANCE: f32 = 0.0;
-
     fn answer(self) -> CoverageAnswer
         ensures { λ r. ⌜ r ≡ coverageAnswer self ⌝ }
     {
@@ -158,11 +155,12 @@ pub fn touches_unchecked(b: RoundedBox, fringe: f32, p: Position) -> bool
     let MaybeCoverage::Coverage(k) = coverage_unchecked(b, fringe) else {
         return false;
     };
-    k.distance_unchecked(p) <= MaybeCoverage::TOUCH_ALLOWANCE
+    k.holds_point(p)
 }
 
-// Whether the box has a coverage and the point lies in it or on its edge.
-// Ruled out: false at a point on the edge; true where there is no coverage.
+// Whether the box has a coverage and the point lies in it, on its edge or at most half a fringe width past
+// it: the test that `contains` makes at each point.
+// Ruled out: false at a point half a fringe width past the edge; true where there is no coverage.
 pub fn touches(b: RoundedBox, fringe: f32, p: Position) -> TestAnswer
     ensures { λ r. ⌜ r ≡ touchesCall b fringe p ⌝ }
 {

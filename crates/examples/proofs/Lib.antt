@@ -1,2 +1,3 @@
--- Shown: the theorem, `starred-shown`.
+-- Shown: the theorem `starred-shown`. Touched: `edges-take-a-finger`.
 pub mod Shown
+pub mod Touched

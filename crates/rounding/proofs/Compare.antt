@@ -2,7 +2,7 @@
 use mathlib.Core.Path.{_≡_, sym, ap, subst₂}
 use mathlib.Core.Logic.{_⊎_, inl, inr}
 use mathlib.Core.Bool.{Bool, true, false, not, _||_}
-use Prim.Native.Nat.{ℕ, _+_, _*_, _≤_, _<_}
+use Prim.Native.Nat.{ℕ, _+_, _*_, _<_}
 use native.Mathlib.Nat.{eq-or-lt-of-le, zero-mul}
 use native.Mathlib.Omega.{arith}
 use lib.Dec.{T, eqb, ltb→lt, lt→ltb, eqb→eq}
@@ -11,6 +11,7 @@ use lib.Ieee.Fits.{and-i, and-l, and-r, eq→eqb}
 use lib.Ieee.Scale.{finite}
 use Rattle.fraction.specs.Whole.{Whole, _×ℕ_, _<ʷ_, _≈ʷ_}
 use Rattle.fraction.specs.Fraction.{_≤ᶠ_, _<ᶠ_, _≈ᶠ_}
+use Rattle.fraction.proofs.Linear.{trans}
 use Rattle.fraction.proofs.Order.{of-eq, of-lt, le-or-lt}
 use Rattle.rounding.specs.Value.{signed, val}
 
@@ -125,3 +126,14 @@ not-le-val x y p q h = elim (le-or-lt (val x) (val y)) [
   | inl k ↦ absurd (lib.Dec.T-not (le x y) h (val-le x y p q k))
   | inr k ↦ k
 ]
+
+-- what is at most one limit is at most every higher one, though it be infinite
+pub le-trans : (x y z : Float) → T (finite y) → T (finite z) → T (le x y) → T (le y z) → T (le x z)
+unfolding le lt eq
+le-trans nan y z q r h k = absurd h
+le-trans (inf s) nan z q r h k = absurd q
+le-trans (inf s) (inf t) z q r h k = absurd q
+le-trans (inf s) (fin t n d) nan q r h k = absurd r
+le-trans (inf s) (fin t n d) (inf u) q r h k = absurd r
+le-trans (inf s) (fin t n d) (fin u o c) q r h k = h
+le-trans (fin s m e) y z q r h k = val-le (fin s m e) z tt r (trans (le-val (fin s m e) y tt q h) (le-val y z q r k))

@@ -1,8 +1,8 @@
 -- The touch rule read from the answer (specs/Laws.antt). Assumes nothing.
 use Prim.Native.Nat.{ℕ, zero, suc, _<_, _≤_}
 use mathlib.Core.Path.{_≡_, refl, sym, _∙_, subst}
-use mathlib.Core.Bool.{true, true≢false}
-use mathlib.Core.List.{List, [], _∷_}
+use mathlib.Core.Bool.{Bool, true, false, true≢false}
+use mathlib.Core.List.{List, [], _∷_, _++_}
 use native.Mathlib.Nat.{lt-of-lt-of-le}
 use native.Mathlib.Omega.{arith}
 use lib.Ieee.{Float}
@@ -14,12 +14,14 @@ use Rattle.fault.proofs.Passing.{both-pass}
 use Rattle.geometry.specs.declared.Position.{Position}
 use Rattle.shape.specs.declared.RoundedBox.{RoundedBox}
 use Rattle.shape.specs.Checks.{fringeCheckOf, pointCheckOf}
+use Rattle.covering.specs.Touches.{touchesOf}
+use Rattle.covering.proofs.Laws.{still-touched}
 use Rattle.boxes.specs.Checks.{mostBoxes}
 use Rattle.boxes.proofs.Few.{few}
 use Rattle.touch.specs.declared.TouchAnswer.{TouchAnswer}
 use Rattle.touch.specs.declared.TouchAnswer.the-variants.{Frame, NoFrame, Refused}
 use Rattle.touch.specs.Touch.{touchCheckOf, touchesAt, FoundRule, RuleUnless, TouchRule}
-use Rattle.touch.specs.Laws.{FrameExactlyWhen, RefusedExactlyWhen}
+use Rattle.touch.specs.Laws.{FrameExactlyWhen, NoFrameExactlyWhen, RefusedExactlyWhen, AsBefore}
 
 within : (bs : List RoundedBox) (fringe : Float) (p : Position) (k : ℕ) → touchesAt bs fringe p k ≡ true → k < length bs
 within [] fringe p k e = absurd (true≢false (sym e))
@@ -39,6 +41,15 @@ module _ (bs : List RoundedBox) (fringe : Float) (p : Position) where
   names (Frame j) k e h = (j, refl)
   names NoFrame k e h = absurd (true≢false (sym e ∙ h k))
   names (Refused f) k e h = absurd h
+
+  none-named : (c : Check) → RuleUnless c bs fringe p NoFrame → (c ≡ check.Pass) × ((k : ℕ) → touchesAt bs fringe p k ≡ false)
+  none-named check.Pass h = (refl, h)
+  none-named (check.Refused f) h = let z : _≡_ {A = ℕ} 0 1 = cc in absurd (omega arith)
+
+  names-none : (r : TouchAnswer) → ((k : ℕ) → touchesAt bs fringe p k ≡ false) → FoundRule bs fringe p r → r ≡ NoFrame
+  names-none (Frame j) e h = absurd (true≢false (sym h ∙ e j))
+  names-none NoFrame e h = refl
+  names-none (Refused f) e h = absurd h
 
   refused : (c : Check) (f : Fault) → RuleUnless c bs fringe p (Refused f) → c ≡ check.Refused f
   refused check.Pass f h = absurd h
@@ -60,8 +71,31 @@ frame-exactly-when = record {
   always = λ bs fringe p r k e t h. names bs fringe p r k t (ruled bs fringe p e r h);
 }
 
+pub no-frame-exactly-when : NoFrameExactlyWhen
+no-frame-exactly-when = record {
+  only = λ bs fringe p h. none-named bs fringe p (touchCheckOf bs fringe p) h;
+  always = λ bs fringe p r e t h. names-none bs fringe p r t (ruled bs fringe p e r h);
+}
+
 pub refused-exactly-when : RefusedExactlyWhen
 refused-exactly-when = record {
   only = λ bs fringe p f h. refused bs fringe p (touchCheckOf bs fringe p) f h;
   always = λ bs fringe p r f e h. ruled bs fringe p e r h;
 }
+
+-- ---- the rule before
+at-place : (before after : List RoundedBox) (b : RoundedBox) (fringe : Float) (p : Position) → touchesAt (before ++ b ∷ after) fringe p (length before) ≡ touchesOf b fringe p
+at-place [] after b fringe p = refl
+at-place (c ∷ before) after b fringe p = at-place before after b fringe p
+
+not-before : {old now : Bool} → (old ≡ true → now ≡ true) → now ≡ false → old ≡ false
+not-before {old = true} h e = absurd (true≢false (sym (h refl) ∙ e))
+not-before {old = false} h e = refl
+
+pub as-before : (before after : List RoundedBox) (b : RoundedBox) (fringe : Float) (p : Position) → AsBefore before after b fringe p
+as-before before after b fringe p =
+    let place = at-place before after b fringe p in
+    record {
+      named = λ o e. subst (λ (c : Check). RuleUnless c (before ++ b ∷ after) fringe p (Frame (length before))) (sym e) (place ∙ still-touched b fringe p o);
+      no-frame = λ h. not-before (still-touched b fringe p) (sym place ∙ no-frame-exactly-when .only (before ++ b ∷ after) fringe p h .1 (length before));
+    }

@@ -1,6 +1,6 @@
 -- Document 01, 'Touch': 'Given a list of boxes, a fringe and a point, the call answers the place of some box whose
--- coverage exists and whose distance at the point is at most 0, as a byte counted from 0. "No frame" comes only when
--- there is no such box.' Definitions only.
+-- coverage exists and whose distance at the point is at most' 0.5 since document 02, change 2, 'as a byte counted from
+-- 0. "No frame" comes only when there is no such box.' Definitions only.
 use Prim.Native.Nat.{ℕ, zero, suc}
 use mathlib.Core.Path.{_≡_}
 use mathlib.Core.Bool.{Bool, true, false}
@@ -29,7 +29,7 @@ touchCheckOf bs fringe p = countCheckOf (length bs) andThen boxesCheckOf bs andT
 
 -- ---- the rule
 
--- at place k, counted from 0, there is a box 'whose coverage exists and whose distance at the point is at most 0'
+-- at place k, counted from 0, there is a box 'whose coverage exists and whose distance at the point is at most' 0.5
 abbrev pub touchesAt : List RoundedBox → Float → Position → ℕ → Bool
 touchesAt [] fringe p k = false
 touchesAt (b ∷ bs) fringe p zero = touchesOf b fringe p

@@ -65,7 +65,7 @@ fn finish(found: Found, fringe: f32, x: f32, y: f32) -> TouchAnswer
 }
 
 // The place of some box that the point touches: one whose coverage exists and whose distance at the
-// point is at most 0. Which one, document 01 leaves free, and so does the contract.
+// point is at most 0.5, in fringe widths. Which one, document 01 leaves free, and so does the contract.
 // Ruled out: 'no frame' untried; a walk over the first box alone; a place found before the list is
 // refused; a place beside the box's.
 pub fn touch(boxes: &[RoundedBox], fringe: f32, x: f32, y: f32) -> TouchAnswer

@@ -10,7 +10,7 @@ returns c = rw (← c .before .before .coverage-unchecked .ensures, c .enum-told
 
 returns-2 : tie.Need-returns-2
 unfolding touchesOf
-returns-2 c = rw (← c .before .before .before .before .coverage-unchecked .ensures, c .before .before .k .given .1, c .distance-unchecked .ensures)
+returns-2 c = rw (← c .before .before .before .before .coverage-unchecked .ensures, c .before .before .k .given .1, c .holds-point .ensures)
 
 pub touches-unchecked-spec : {M : Type 1} → statement M
 touches-unchecked-spec =

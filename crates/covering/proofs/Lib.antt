@@ -1,0 +1,2 @@
+-- Laws: specs/Laws.antt.
+pub mod Laws
