@@ -36,7 +36,8 @@ pub record RefusedExactlyWhen : Type 0 where
   pub always : (bs : List RoundedBox) (fringe : Float) (p : Position) (r : TouchAnswer) (f : Fault)
       → touchCheckOf bs fringe p ≡ check.Refused f → TouchRule bs fringe p r → r ≡ Refused f
 
--- ---- the rule before document 02, change 2: the point lies on or inside the outline of b, a box anywhere in a list
+-- ---- beside the rule before document 02, change 2: 'a touch must fall on or inside the outline' of a box b, which
+-- stands anywhere in the list
 
 pub record AsBefore (before after : List RoundedBox) (b : RoundedBox) (fringe : Float) (p : Position) : Type 0 where
   -- the place of b may be named still
