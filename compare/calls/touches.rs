@@ -79,7 +79,7 @@ fn edges(l: &mut List) {
         l.touch(&[thin], 1.0, [0.0, y]);
         l.touch(&[thin, square], 1.0, [0.0, y]);
     }
-    // The distance is a NaN.
+    // At the smaller fringe the distance is a NaN.
     let far = upright(LARGEST, LARGEST, [4.0; 2], [0.0; 2]);
     for fringe in [1.0, 1e-36] {
         l.touch(&[far], fringe, [LARGEST; 2]);

@@ -14,8 +14,8 @@ use Rattle.covering.specs.declared.MaybeCoverage.the-variants.{Coverage,
 use Rattle.covering.specs.Coverage.{coverageOf}
 use Rattle.covering.specs.Touches.{touchesOf}
 
--- Document 01: 'whose coverage exists'; document 02, change 2: 'its distance is at most 0.5'. Not at a NaN, which is at
--- most nothing
+-- Document 01: 'whose coverage exists'; document 02, change 2: 'its distance is at most 0.5'. A NaN is at most
+-- nothing
 pub record TouchesExactlyWhen : Type 0 where
   pub only : (b : RoundedBox) (fringe : Float) (p : Position) → touchesOf b fringe p ≡ true
       → (k : ClipCoverage) × (coverageOf b fringe ≡ Coverage k) × (le (distanceOf k p) f½ ≡ true)

@@ -21,7 +21,7 @@ use Rattle.boxes.proofs.Few.{few}
 use Rattle.touch.specs.declared.TouchAnswer.{TouchAnswer}
 use Rattle.touch.specs.declared.TouchAnswer.the-variants.{Frame, NoFrame, Refused}
 use Rattle.touch.specs.Touch.{touchCheckOf, touchesAt, FoundRule, RuleUnless, TouchRule}
-use Rattle.touch.specs.Laws.{FrameExactlyWhen, NoFrameExactlyWhen, RefusedExactlyWhen, AsBefore}
+use Rattle.touch.specs.Laws.{FrameExactlyWhen, NoFrameExactlyWhen, RefusedExactlyWhen, StillNamed}
 
 within : (bs : List RoundedBox) (fringe : Float) (p : Position) (k : ℕ) → touchesAt bs fringe p k ≡ true → k < length bs
 within [] fringe p k e = absurd (true≢false (sym e))
@@ -92,8 +92,8 @@ not-before : {old now : Bool} → (old ≡ true → now ≡ true) → now ≡ fa
 not-before {old = true} h e = absurd (true≢false (sym (h refl) ∙ e))
 not-before {old = false} h e = refl
 
-pub as-before : (before after : List RoundedBox) (b : RoundedBox) (fringe : Float) (p : Position) → AsBefore before after b fringe p
-as-before before after b fringe p =
+pub still-named : (before after : List RoundedBox) (b : RoundedBox) (fringe : Float) (p : Position) → StillNamed before after b fringe p
+still-named before after b fringe p =
     let place = at-place before after b fringe p in
     record {
       named = λ o e. subst (λ (c : Check). RuleUnless c (before ++ b ∷ after) fringe p (Frame (length before))) (sym e) (place ∙ still-touched b fringe p o);

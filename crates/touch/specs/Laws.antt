@@ -39,7 +39,7 @@ pub record RefusedExactlyWhen : Type 0 where
 -- ---- beside the rule before document 02, change 2: 'a touch must fall on or inside the outline' of a box b, which
 -- stands anywhere in the list
 
-pub record AsBefore (before after : List RoundedBox) (b : RoundedBox) (fringe : Float) (p : Position) : Type 0 where
+pub record StillNamed (before after : List RoundedBox) (b : RoundedBox) (fringe : Float) (p : Position) : Type 0 where
   -- the place of b may be named still
   pub named : onOrInsideOf b fringe p ≡ true → touchCheckOf (before ++ b ∷ after) fringe p ≡ check.Pass → TouchRule (before ++ b ∷ after) fringe p (Frame (length before))
   -- and 'no frame' comes only where it came before
