@@ -2,8 +2,7 @@
  * and -lm.
  *
  * Every function is proved to return the number and to leave in lent memory exactly what its contract
- * in crates/beamnettle/src/lib.rt says, whatever the numbers are. The place that a touch names is the one
- * thing that its contract leaves free.
+ * in crates/beamnettle/src/lib.rt says, whatever the numbers are. No contract leaves an answer free.
  *
  * Lent memory. Lengths count elements, not bytes. A lent pointer must be valid for its length and
  * aligned; where the length is 0 it may be anything, NULL too. What is written must not overlap anything
@@ -199,9 +198,9 @@ uint8_t beamnettle_reach(const float *coverage, size_t coverage_length, float *o
  * the coverage's strays are allowed besides. Coverage and bounds may hold any floats. Returns 33 or 34. */
 uint8_t beamnettle_holds(const float *coverage, size_t coverage_length, const float *bounds, size_t bounds_length);
 
-/* The place of some box that a point touches: one whose coverage exists and whose distance at the point is
+/* The lowest place whose box a point touches: a box whose coverage exists and whose distance at the point is
  * at most 0.5, the allowance that beamnettle_contains has: the print lays ink to half a fringe width past the
- * outline. At most 256 boxes are taken.
+ * outline. At most 256 boxes are taken, and all of them are checked before a place is named.
  * Returns 256 + the place, counted from 0; 35 where there is no such box; or 12, then 1 or 2 for each box in
  * order, then 1 for the fringe or the point. */
 uint32_t beamnettle_touch(const struct beamnettle_box *boxes, size_t boxes_length, float fringe, float x, float y);

@@ -146,7 +146,6 @@ fn upright_rect(f: &mut Fields) -> Result<String, Bad> {
     Ok(answered(answer, maybe("box")))
 }
 
-/// The first place is answered: document 01 leaves free which, and the program answers the first.
 fn touch(f: &mut Fields) -> Result<String, Bad> {
     let count = number(f)?;
     if count > 257 {
@@ -157,8 +156,7 @@ fn touch(f: &mut Fields) -> Result<String, Bad> {
         .collect::<Result<Vec<[f32; 10]>, _>>()?;
     let (fringe, point) = (float(f)?, floats(f)?);
     ended(f)?;
-    Ok(answered(calls::touch(&boxes, fringe, point), |places| {
-        let place = places.first();
+    Ok(answered(calls::touch(&boxes, fringe, point), |place| {
         place.map_or("noframe".to_string(), |place| format!("frame {place}"))
     }))
 }

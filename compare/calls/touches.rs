@@ -1,4 +1,4 @@
-//! Touch lists. The program answers the first place that is right, and so does the list.
+//! Touch lists.
 use crate::list::{up, upright, with, List, Random, LARGEST};
 
 type Box10 = [f32; 10];
@@ -92,6 +92,38 @@ fn edges(l: &mut List) {
     }
 }
 
+/// Boxes of which many hold the touch: the lowest place is named, and a fault behind it refuses the list.
+fn first(l: &mut List) {
+    l.line("# touch: the first of many");
+    let square = |extent: f32| upright(0.0, 0.0, [extent; 2], [0.0; 2]);
+    let [one, thin] = [square(4.0), upright(0.0, 0.0, [0.4375, 4.0], [0.0; 2])];
+    let elsewhere = upright(64.0, 0.0, [4.0; 2], [0.0; 2]);
+    let faulty = with(one, 6, -1.0);
+    l.touch(&[one, one], 1.0, [0.0; 2]);
+    l.touch(&[one, faulty], 1.0, [0.0; 2]);
+    l.touch(&[faulty, one], 1.0, [0.0; 2]);
+    l.touch(&[thin, one], 1.0, [0.0; 2]);
+    l.touch(&[one, thin], 1.0, [0.0; 2]);
+    l.touch(&[one, one], f32::NAN, [0.0; 2]);
+    l.touch(&[one, one], 1.0, [0.0, f32::NAN]);
+    // Squares in one another, the smallest first and the largest first.
+    let mut nested: Vec<Box10> = (1..=8).map(|extent| square(extent as f32)).collect();
+    for _ in 0..2 {
+        for x in 0..10 {
+            l.touch(&nested, 1.0, [x as f32 + 0.5, 0.0]);
+            l.touch(&nested, 1.0, [x as f32 + 0.75, 0.0]);
+        }
+        nested.reverse();
+    }
+    for at in [0, 1, 127, 254, 255] {
+        let boxes = [vec![elsewhere; at], vec![one; 256 - at]].concat();
+        l.touch(&boxes, 1.0, [0.0; 2]);
+        let refused = [&boxes[..255], &[faulty]].concat();
+        l.touch(&refused, 1.0, [0.0; 2]);
+    }
+    l.touch(&[one; 257], 1.0, [0.0; 2]);
+}
+
 /// Numbers 12, 1 and 2, and their order.
 fn refusals(l: &mut List) {
     l.line("# touch: numbers 12, 1 and 2, and their order");
@@ -140,11 +172,20 @@ fn random(l: &mut List) {
         let point = [x + a * along + c * across, y + b * along + d * across];
         l.touch(&boxes, [1.0, 0.5, 2.0][r.below(3) as usize], point);
     }
+    // On one another: most hold the point.
+    for _ in 0..60 {
+        let one = r.boxed();
+        let near = |r: &mut Random| with(one, 4, one[4] + r.float(-4.0, 4.0));
+        let mut boxes: Vec<Box10> = (0..r.below(12)).map(|_| near(r)).collect();
+        boxes.insert(r.below(boxes.len() as u64 + 1) as usize, r.boxed());
+        l.touch(&boxes, 1.0, [one[4], one[5]]);
+    }
 }
 
 pub fn touches(l: &mut List) {
     places(l);
     edges(l);
+    first(l);
     refusals(l);
     random(l);
 }

@@ -305,7 +305,7 @@ pub fn contains(c: Coverage11, b: Box10) -> Result<bool, Refused> {
 }
 
 /// The places of all boxes that hold a touch: at a distance of at most 0.5.
-pub fn touch(boxes: &[Box10], fringe: f32, point: [f32; 2]) -> Result<Vec<usize>, Refused> {
+pub fn touched(boxes: &[Box10], fringe: f32, point: [f32; 2]) -> Result<Vec<usize>, Refused> {
     if boxes.len() > 256 {
         return Err(BOXES);
     }
@@ -317,6 +317,11 @@ pub fn touch(boxes: &[Box10], fringe: f32, point: [f32; 2]) -> Result<Vec<usize>
         coverage.is_some_and(|coverage| coverage.distance(point) <= 0.5)
     };
     Ok((0..boxes.len()).filter(touches).collect())
+}
+
+/// Document 02, change 3: the lowest of these places.
+pub fn touch(boxes: &[Box10], fringe: f32, point: [f32; 2]) -> Result<Option<usize>, Refused> {
+    Ok(touched(boxes, fringe, point)?.first().copied())
 }
 
 // ---- scissors and fills

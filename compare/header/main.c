@@ -478,6 +478,15 @@ static void touching(void) {
     CHECK(beamnettle_touch(boxes, 256, 2, 23, 3) == BEAMNETTLE_FIRST_PLACE + 2);
     CHECK(beamnettle_touch(boxes, 256, 2, nextafterf(23, 24), 3) == BEAMNETTLE_NO_FRAME);
     CHECK(beamnettle_touch(boxes, 256, 1, 22.5f, 4.5f) == BEAMNETTLE_FIRST_PLACE + 2);
+    /* of boxes in one another's way the lowest place */
+    for (size_t i = 100; i < 256; i++) boxes[i].extent_x = 1000;
+    CHECK(beamnettle_touch(boxes, 256, 1, 1500, 3) == BEAMNETTLE_FIRST_PLACE + 100);
+    CHECK(beamnettle_touch(boxes, 256, 1, 2001, 3) == BEAMNETTLE_FIRST_PLACE + 101);
+    CHECK(beamnettle_touch(boxes, 256, 1, 20, 3) == BEAMNETTLE_FIRST_PLACE + 2);
+    boxes[255].radius_x = -1;
+    CHECK(beamnettle_touch(boxes, 256, 1, 1500, 3) == BEAMNETTLE_IMPROPER_BOX);
+    CHECK(beamnettle_touch(boxes, 255, 1, 1500, 3) == BEAMNETTLE_FIRST_PLACE + 100);
+    boxes[255].radius_x = 0;
     boxes[7].radius_y = 2;
     boxes[9].c = INFINITY;
     CHECK(beamnettle_touch(boxes, 256, INFINITY, 0, 3) == BEAMNETTLE_IMPROPER_BOX);

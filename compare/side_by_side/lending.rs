@@ -128,10 +128,10 @@ impl Lending<'_> {
         Ok(number)
     }
 
-    /// Compares a touch: any place that the Rust allows is right, and no frame where it allows none.
+    /// Compares a touch, place by place.
     pub fn touched(
         mut self,
-        old: Result<Vec<usize>, Refused>,
+        old: Result<Option<usize>, Refused>,
         boxes: &[Box10],
         call: impl Fn(&[Box10]) -> u32,
     ) -> Result<u8, String> {
@@ -144,15 +144,15 @@ impl Lending<'_> {
         if !boxes.kept(0, same) {
             return Err(changed());
         }
-        let named = |place: &usize| new == library::FIRST_PLACE + *place as u32;
-        match old {
-            Err(number) if new == u32::from(number) => Ok(number),
-            Ok(places) if places.iter().any(named) => Ok(library::DONE),
-            Ok(places) if places.is_empty() && new == u32::from(library::NO_FRAME) => {
-                Ok(library::NO_FRAME)
-            }
-            old => Err(format!("number {new}, the Rust {old:?}")),
+        let (number, counted) = match old {
+            Ok(Some(place)) => (library::FIRST_PLACE + place as u32, library::DONE),
+            Ok(None) => (library::NO_FRAME.into(), library::NO_FRAME),
+            Err(number) => (number.into(), number),
+        };
+        if new != number {
+            return Err(format!("number {new}, expected {number}"));
         }
+        Ok(counted)
     }
 }
 

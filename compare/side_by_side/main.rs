@@ -44,6 +44,7 @@ struct Counts {
     compared: u64,
     differ: u64,
     chains: u64,
+    touches: touches::Counts,
     closeness: Closeness,
 }
 
@@ -88,6 +89,7 @@ impl Counts {
             cells,
         } = self.closeness;
         println!("chains: {}", self.chains);
+        self.touches.show();
         println!(
             "largest share of the allowed difference: {largest:.4} (done drawings {drawings}, layings {layings}, cells {cells})"
         );
@@ -113,7 +115,10 @@ fn shrunk(mut chain: Chain, mut difference: String) -> (Chain, String) {
 fn put_box_call(random: &mut Random, counts: &mut Counts) {
     let call = boxes::call(random);
     match call.compare(random) {
-        Ok(number) => counts.answer(call.kind(), number),
+        Ok(number) => {
+            counts.touches.count(&call);
+            counts.answer(call.kind(), number);
+        }
         Err(difference) => counts.difference(&difference, &call),
     }
 }

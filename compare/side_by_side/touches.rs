@@ -1,6 +1,6 @@
 //! Random and hostile touch lists.
 use crate::{
-    boxes::{fringe, near, number, shape, LIMIT},
+    boxes::{beside, fringe, near, number, shape, LIMIT},
     call::Call,
     random::Random,
 };
@@ -59,7 +59,7 @@ fn at_edge(random: &mut Random, one: Box10, fringe: f32) -> [f32; 2] {
     let across = random.float(-2.0, 2.0) * height;
     let (right, down) = (a * along + c * across, b * along + d * across);
     let point = |t: f32| [x + t * right, y + t * down];
-    let held = |t| calls::touch(&[one], fringe, point(t)).is_ok_and(|places| !places.is_empty());
+    let held = |t| calls::touch(&[one], fringe, point(t)) == Ok(Some(0));
     let (mut inside, mut outside) = (0.0, 8.0);
     for _ in 0..40 {
         let middle = 0.5 * (inside + outside);
@@ -72,14 +72,36 @@ fn at_edge(random: &mut Random, one: Box10, fringe: f32) -> [f32; 2] {
     point(random.pick(&[inside, outside]))
 }
 
-/// Lists of boxes that lie in one another's way, or so far apart that a point touches few.
-pub fn list(random: &mut Random) -> Call {
+/// Boxes that lie on one another: most hold a point that one of them holds. The first few may lie elsewhere.
+fn pile(random: &mut Random) -> Vec<Box10> {
+    let (n, one) = (length(random), proper(random));
+    let elsewhere = random.pick(&[0, 0, 1, 2, n / 2]);
+    let another = |at| {
+        if at < elsewhere || random.one_in(8) {
+            return proper(random);
+        }
+        let two = beside(random, one);
+        calls::bounds(two).map_or(one, |_| two)
+    };
+    (0..n).map(another).collect()
+}
+
+/// Boxes that lie in one another's way, on one another, or so far apart that a point touches few.
+fn boxes(random: &mut Random) -> Vec<Box10> {
+    if random.one_in(3) {
+        return pile(random);
+    }
     let mut boxes: Vec<Box10> = (0..length(random)).map(|_| proper(random)).collect();
     if random.one_in(2) {
         for (at, one) in boxes.iter_mut().enumerate() {
             one[4] = 4000.0 * at as f32 + random.float(-9.0, 9.0);
         }
     }
+    boxes
+}
+
+pub fn list(random: &mut Random) -> Call {
+    let mut boxes = boxes(random);
     let aim = if boxes.is_empty() {
         shape(random)
     } else {
@@ -101,5 +123,51 @@ pub fn list(random: &mut Random) -> Call {
         boxes,
         fringe,
         point,
+    }
+}
+
+/// What is counted of touch lists.
+#[derive(Default)]
+pub struct Counts {
+    /// lists in which at least two boxes hold the touch, and at least ten
+    several: u64,
+    ten: u64,
+    /// lists whose place is not 0, though a later box holds the touch too
+    above: u64,
+    /// refused lists in which a box before the first at fault holds the touch
+    behind: u64,
+}
+
+impl Counts {
+    pub fn count(&mut self, call: &Call) {
+        let Call::Touch {
+            boxes,
+            fringe,
+            point,
+        } = call
+        else {
+            return;
+        };
+        let places = calls::touched(boxes, *fringe, *point).unwrap_or_default();
+        self.several += (places.len() >= 2) as u64;
+        self.ten += (places.len() >= 10) as u64;
+        self.above += (places.len() >= 2 && places[0] > 0) as u64;
+        let faulty = |one: &Box10| calls::bounds(*one).is_err();
+        if let Some(at) = boxes.iter().position(faulty) {
+            let before = calls::touch(&boxes[..at], *fringe, *point);
+            self.behind += matches!(before, Ok(Some(_))) as u64;
+        }
+    }
+
+    pub fn show(&self) {
+        let Counts {
+            several,
+            ten,
+            above,
+            behind,
+        } = self;
+        println!(
+            "touch lists in which several boxes hold the touch: {several} (ten or more: {ten}, place not 0: {above}); refused behind a box that holds it: {behind}"
+        );
     }
 }

@@ -1,18 +1,12 @@
--- The exported calls on masks, outright, and touch by its rule. Those on lent floats: box_exports/specs/Calls.antt and
--- window_exports/specs/Calls.antt. Definitions only.
+-- The exported calls on masks, outright. Those on lent floats: box_exports/specs/Calls.antt and
+-- window_exports/specs/Calls.antt. Touch: touch/specs/Touch.antt. Definitions only.
 use Prim.Native.Nat.{ℕ}
-use mathlib.Core.Path.{_≡_}
 use mathlib.Core.List.{List}
 use lib.IntN.{ℤ}
 use lib.Ieee.{Float}
 use lib.ListN.{length}
 use Rattle.laying.specs.Laying.{Laying, laying}
 use Rattle.mask.specs.Calls.{Drawing, drawing, lent, drawAnswer, maskAfterDrawing, floatsAfterDrawing, countersAfterDrawing, layAnswer, maskAfterLaying}
-use Rattle.geometry.specs.declared.Position.{Position}
-use Rattle.shape.specs.declared.RoundedBox.{RoundedBox}
-use Rattle.touch.specs.declared.TouchAnswer.{TouchAnswer}
-use Rattle.touch.specs.Touch.{TouchRule}
-use Rattle.boundary.specs.Answers.{touchNumber}
 
 -- ---- masks: a size and an offset are plain numbers here. The calls' answers: mask/specs/Calls.antt
 
@@ -36,7 +30,3 @@ layingLent width height otherWidth otherHeight x y =
 -- what a laying-on leaves of the mask
 abbrev pub maskLaid : Laying → List ℕ → List ℕ → List ℕ
 maskLaid l mask other = maskAfterLaying (layAnswer l (lent mask) (length other)) l mask other
-
--- ---- touch: a number is that of an answer which the touch rule allows
-abbrev pub TouchNumber : List RoundedBox → Float → Position → ℕ → Type 0
-TouchNumber bs fringe p n = (r : TouchAnswer) × TouchRule bs fringe p r × (n ≡ touchNumber r)

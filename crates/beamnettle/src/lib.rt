@@ -1,19 +1,18 @@
 // The kiosk's C library: document 01's calls over numbers and lent slices. include/beamnettle.h says
-// what each does in words; each contract gives its number and all that is lent afterwards outright, but
-// for the place that a touch names, which document 01 leaves free.
+// what each does in words; each contract gives its number and all that is lent afterwards outright.
 use cells::Size;
 use laying::Offset;
 use shape::RoundedBox;
 ghost use mathlib.Core.Path.{_≡_};
 ghost use lib.ListN.{length};
 ghost use Rattle.mask.specs.Calls.{lent, outcomeNumber, drawAnswer, layAnswer};
-ghost use Rattle.touch.specs.Touch.{pointOf};
-ghost use Rattle.boundary.specs.Answers.{after, boxHanded, coverageHanded, boundsHanded, distanceHanded, testNumber};
+ghost use Rattle.touch.specs.Touch.{pointOf, touchCall};
+ghost use Rattle.boundary.specs.Answers.{after, boxHanded, coverageHanded, boundsHanded, distanceHanded, testNumber, touchNumber};
 ghost use Rattle.boundary.specs.Answers.{bothBoxHanded, bothCoverageHanded, fillHanded};
 ghost use Rattle.box_exports.specs.Calls.{fitLent, transformedLent, intersectionLent, rectIntersectionLent, coverageLent};
 ghost use Rattle.box_exports.specs.Calls.{boundsLent, distanceLent, parallelLent, containsLent};
 ghost use Rattle.window_exports.specs.Calls.{withScissorLent, trimmedScissorLent, rectFillLent, uprightRectLent, reachLent, holdsLent};
-ghost use Rattle.beamnettle.specs.Calls.{drawingLent, maskDrawn, floatsDrawn, countersDrawn, layingLent, maskLaid, TouchNumber};
+ghost use Rattle.beamnettle.specs.Calls.{drawingLent, maskDrawn, floatsDrawn, countersDrawn, layingLent, maskLaid};
 
 // ---- masks
 
@@ -216,7 +215,7 @@ pub extern "C" fn beamnettle_holds(k: &[f32], bounds: &[f32]) -> u8
 // Proved by hand, as `touch::touch` is: the borrow checker covers no function with a slice of structs.
 #[no_mangle]
 pub extern "C" fn beamnettle_touch(boxes: &[RoundedBox], fringe: f32, x: f32, y: f32) -> u32
-    ensures { λ r. ⌜ TouchNumber (now (boxes .entry)) fringe (pointOf x y) r ⌝ }
+    ensures { λ r. ⌜ r ≡ touchNumber (touchCall (now (boxes .entry)) fringe (pointOf x y)) ⌝ }
 {
     boundary::touch_number(touch::touch(boxes, fringe, x, y))
 }

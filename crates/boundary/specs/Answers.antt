@@ -105,7 +105,7 @@ abbrev pub testNumber : TestAnswer → ℕ
 testNumber (test.Done found) = cond found (ordinaryNumber yes) (ordinaryNumber no)
 testNumber (test.Refused f) = numberOf f
 
--- 'the place of some box .. as a byte counted from 0', or "no frame"
+-- the place 'as a byte counted from 0', or "no frame"
 abbrev pub touchNumber : TouchAnswer → ℕ
 touchNumber (touched.Frame k) = ordinaryNumber (place k)
 touchNumber touched.NoFrame = ordinaryNumber noFrame

@@ -2,7 +2,6 @@
 use mathlib.Core.Path.{refl}
 use lib.Count.{trailingZeros}
 use lib.Ieee.{ofBits, ofFields, odd, units, round, size, span, climb, ofInt, add, sub, sum, mul, div, rem, neg, lt, le, eq, ne, isNan}
-use lib.Ieee.Scale.{finite}
 use Rattle.float.specs.Simple.{absOf, minOf, maxOf}
 use Rattle.narrowing.specs.Width.{narrowOf}
 use Rattle.roots.specs.Root.{rootBelow, wholeRoot, roundRoot, sqrtOf, hypotOf}
@@ -17,10 +16,10 @@ use Rattle.box_fault.specs.Apart.{Apart}
 pub apart-shown : Apart
 unfolding trimmedScissorOf trimOf trimmedSidesOf cutsOf highOf lowOf withinHighOf withinLowOf perFringeOf
     betweenOf squareOf alongsideOf straightBy straightOf alignedOf quotientOf inverseOf collapsedOf
-    boxCheckOf improperOf improperSideOf boxInRangeOf frameInRangeOf bothInRangeOf inRangeOf finite
+    boxCheckOf improperOf improperSideOf boxInRangeOf frameInRangeOf bothInRangeOf inRangeOf
     absOf minOf maxOf narrowOf rootBelow wholeRoot roundRoot sqrtOf hypotOf
     ofBits ofFields odd units round size span climb ofInt add sub sum mul div rem neg lt le eq ne isNan trailingZeros
 apart-shown = (
-  record { trimmed = refl; coverage = refl; with-scissor = refl; touch = λ r h. h },
-  record { trimmed = refl; coverage = refl; with-scissor = refl; touch = λ r h. h },
+  record { trimmed = refl; coverage = refl; with-scissor = refl; touch = refl },
+  record { trimmed = refl; coverage = refl; with-scissor = refl; touch = refl },
 )

@@ -1,21 +1,32 @@
--- A box's check, and that of two boxes and a fringe, by their causes (specs/Causes.antt). Assumes nothing.
+-- A box's check, that of two boxes and a fringe and that of a touch list, by their causes (specs/Causes.antt). Assumes
+-- nothing.
 use mathlib.Core.Path.{_≡_, refl, sym}
 use mathlib.Core.Bool.{Bool, true, false, _&&_}
 use mathlib.Core.Logic.{_⊎_, inl, inr}
-use mathlib.Core.List.{[], _∷_}
+use mathlib.Core.List.{List, [], _∷_}
+use Prim.Native.Nat.{_≤_}
+use lib.Dec.{ltb}
 use lib.Ieee.{Float, lt}
+use lib.ListN.{length}
+use borrow.Author.Tests.{lt-ltb, le-ltb, ltb-true, ltb-false}
 use Rattle.float.specs.Ops.{f0}
 use Rattle.fault.specs.declared.Fault.{Fault}
-use Rattle.fault.specs.declared.Fault.the-variants.{NumberOutOfRange, ImproperBox}
+use Rattle.fault.specs.declared.Fault.the-variants.{NumberOutOfRange, ImproperBox, TooManyBoxes}
 use Rattle.fault.specs.declared.Check.the-variants as check
+use Rattle.fault.specs.Check.{_andThen_}
+use Rattle.geometry.specs.declared.Position.{Position}
 use Rattle.geometry.specs.declared.Transform2D.{Transform2D}
 use Rattle.shape.specs.declared.RoundedBox.{RoundedBox}
-use Rattle.shape.specs.Checks.{inRangeOf, bothInRangeOf, frameInRangeOf, boxInRangeOf, improperSideOf, improperOf, boxCheckOf}
+use Rattle.shape.specs.Checks.{inRangeOf, bothInRangeOf, frameInRangeOf, boxInRangeOf, improperSideOf, improperOf, boxCheckOf, numbersCheckOf, fringeCheckOf, pointCheckOf}
 use Rattle.beside.specs.Calls.{pairFringeCheckOf}
 use Rattle.cells.proofs.Sizes.{or-true}
+use Rattle.boxes.specs.Checks.{mostBoxes, boxesCheckOf}
+use Rattle.touch.specs.Touch.{touchCheckOf}
 use Rattle.outline.specs.Outline.{allInRangeOf}
 use Rattle.box_fault.specs.Causes.{InRange, frameNumbers, boxNumbers, ImproperSide, ProperSide, BoxFault, number, improper, Faultless, PairFault, of-first, of-second, of-fringe}
+use Rattle.box_fault.specs.Causes.{FirstAtFault, All, touchNumbers, TouchFault, too-many-boxes, of-box, of-touch}
 use Rattle.box_fault.proofs.Decided.{Decided}
+use Rattle.box_fault.proofs.Lists.{EachChecked, all-pass, first-refuses, all-decided}
 
 -- ---- numbers: a check's nested tests are one test of a list
 
@@ -107,3 +118,41 @@ module _ (one two : RoundedBox) (fringe : Float) where
       go (inl g) (inr (f, e)) good h = inr (f, of-second g e)
       go (inl g) (inl k) false h = inr (NumberOutOfRange, of-fringe g k h)
       go (inl g) (inl k) true h = inl (g, k, h)
+
+-- ---- a touch list
+
+each-box : EachChecked Faultless BoxFault boxCheckOf boxesCheckOf
+each-box = record { none = refl; next = λ b bs. refl; passes = box-passes; caused = box-refused }
+
+-- two checks of numbers are one test of a list
+both-checks : (a b : Bool) → (numbersCheckOf a andThen numbersCheckOf b) ≡ numbersCheckOf (a && b)
+both-checks true b = refl
+both-checks false b = refl
+
+touch-numbers : (fringe : Float) (p : Position) → (fringeCheckOf fringe andThen pointCheckOf p) ≡ numbersCheckOf (allInRangeOf (touchNumbers fringe p))
+unfolding bothInRangeOf allInRangeOf
+touch-numbers fringe p = rw (and-true (inRangeOf (p .y))) (both-checks (inRangeOf fringe) (inRangeOf (p .x) && inRangeOf (p .y)))
+
+module _ (bs : List RoundedBox) (fringe : Float) (p : Position) where
+  pub touch-refused : (f : Fault) → TouchFault bs fringe p f → touchCheckOf bs fringe p ≡ check.Refused f
+  touch-refused f (too-many-boxes l) = rw (lt-ltb _ _ l)
+  touch-refused f (of-box l e) = rw (le-ltb _ _ l, first-refuses each-box bs f e)
+  touch-refused f (of-touch l g e) = rw (le-ltb _ _ l, all-pass each-box bs g, touch-numbers fringe p, e)
+
+  pub record TouchFaultless : Type 0 where
+    pub few : length bs ≤ mostBoxes
+    pub boxes : All Faultless bs
+    pub in-range : InRange (touchNumbers fringe p)
+
+  pub touch-passes : TouchFaultless → touchCheckOf bs fringe p ≡ check.Pass
+  touch-passes h = rw (le-ltb _ _ (h .few), all-pass each-box bs (h .boxes), touch-numbers fringe p, h .in-range)
+
+  pub touch-decided : Decided TouchFaultless (TouchFault bs fringe p)
+  touch-decided = go (ltb mostBoxes (length bs)) (all-decided box-decided bs) (allInRangeOf (touchNumbers fringe p)) refl refl
+    where
+      go : (many : Bool) → Decided (All Faultless bs) (FirstAtFault Faultless BoxFault bs) → (good : Bool) → ltb mostBoxes (length bs) ≡ many
+          → allInRangeOf (touchNumbers fringe p) ≡ good → Decided TouchFaultless (TouchFault bs fringe p)
+      go true d good l h = inr (TooManyBoxes, too-many-boxes (ltb-true _ _ l))
+      go false (inr (f, e)) good l h = inr (f, of-box (ltb-false _ _ l) e)
+      go false (inl g) false l h = inr (NumberOutOfRange, of-touch (ltb-false _ _ l) g h)
+      go false (inl g) true l h = inl (record { few = ltb-false _ _ l; boxes = g; in-range = h })

@@ -1,23 +1,21 @@
 -- What a box with a half extent below 0 meets (specs/FirstFaulty.antt). Assumes nothing.
-use mathlib.Core.Path.{_≡_, refl, sym, subst}
+use mathlib.Core.Path.{_≡_, refl, sym}
 use mathlib.Core.Bool.{Bool, true, false, true≢false, cond, _||_}
 use mathlib.Core.Logic.{_⊎_, inl, inr}
 use mathlib.Core.List.{List, [], _∷_, _++_}
-use borrow.Author.Tests.{le-ltb}
 use lib.Ieee.{lt}
 use Rattle.float.specs.Ops.{f0}
+use Rattle.fault.specs.declared.Fault.{Fault}
 use Rattle.fault.specs.declared.Fault.the-variants.{NumberOutOfRange, ImproperBox}
-use Rattle.fault.specs.declared.Check.{Check}
 use Rattle.fault.specs.declared.Check.the-variants as check
 use Rattle.fault.specs.Number.{numberOf}
 use Rattle.shape.specs.declared.RoundedBox.{RoundedBox}
 use Rattle.shape.specs.Checks.{boxCheckOf}
-use Rattle.boxes.specs.Checks.{boxesCheckOf}
-use Rattle.touch.specs.Touch.{touchCheckOf, RuleUnless}
 use Rattle.outline.specs.Outline.{allInRangeOf}
-use Rattle.box_fault.specs.Causes.{boxNumbers, ImproperSide, BoxFault, number, improper, Faultless}
-use Rattle.box_fault.specs.FirstFaulty.{belowZeroOf, causeOf, AsFirst, AsSecond, AllFaultless, Listed, FirstFaultyBox}
+use Rattle.box_fault.specs.Causes.{FirstAtFault, here, later, All, boxNumbers, ImproperSide, BoxFault, number, improper, Faultless, of-box}
+use Rattle.box_fault.specs.FirstFaulty.{belowZeroOf, causeOf, AsFirst, AsSecond, Listed, FirstFaultyBox}
 use Rattle.box_fault.proofs.Boxes.{box-refused, box-passes}
+use Rattle.box_fault.proofs.Laws.{refused-exactly-when}
 
 numbered : (good : Bool) → numberOf (cond good ImproperBox NumberOutOfRange) ≡ cond good 2 1
 numbered true = refl
@@ -69,16 +67,15 @@ second one g = let passes = box-passes one g in record {
 
 -- ---- in a touch list
 
-boxes-refused : (before after : List RoundedBox) (b : RoundedBox) → AllFaultless before → belowZeroOf b ≡ true
-    → boxesCheckOf (before ++ b ∷ after) ≡ check.Refused (causeOf b)
-boxes-refused [] after b g h = rw (faulty b h)
-boxes-refused (x ∷ xs) after b g h = rw (box-passes x (g .0)) (boxes-refused xs after b (g .1) h)
+behind : (before after : List RoundedBox) (b : RoundedBox) {f : Fault} → All Faultless before → BoxFault b f
+    → FirstAtFault Faultless BoxFault (before ++ b ∷ after) f
+behind [] after b g h = here h
+behind (x ∷ xs) after b g h = later (g .0) (behind xs after b (g .1) h)
 
 listed : Listed
-listed before after b fringe p r few g h rule =
-    let refused : touchCheckOf (before ++ b ∷ after) fringe p ≡ check.Refused (causeOf b) =
-    rw (le-ltb _ _ few, boxes-refused before after b g h) in
-    subst (λ (c : Check). RuleUnless c (before ++ b ∷ after) fringe p r) refused rule
+listed before after b fringe p few g h =
+    let first = behind before after b g (caused b (allInRangeOf (boxNumbers b)) refl h) in
+    refused-exactly-when .touch (before ++ b ∷ after) fringe p .always (causeOf b) (of-box few first)
 
 pub first-faulty-box : FirstFaultyBox
 first-faulty-box = record { number = λ b. numbered (allInRangeOf (boxNumbers b)); first = first; second = second; listed = listed }

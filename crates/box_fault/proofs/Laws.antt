@@ -1,5 +1,5 @@
--- The calls that document 02's change 1 adds are refused exactly for their first cause (specs/Laws.antt). Assumes
--- nothing.
+-- The calls that document 02's change 1 adds, and touch, are refused exactly for their first cause (specs/Laws.antt).
+-- Assumes nothing.
 use mathlib.Core.Path.{_≡_}
 use Prim.Native.Nat.{ℕ}
 use native.Mathlib.Omega.{arith}
@@ -21,9 +21,11 @@ use Rattle.fill.specs.declared.FillAnswer.the-variants as filled
 use Rattle.fill.specs.Fill.{rectFillOf}
 use Rattle.fill.specs.Calls.{fillAnswer}
 use Rattle.upright_rect.specs.UprightRect.{uprightRectOf}
+use Rattle.touch.specs.declared.TouchAnswer.the-variants as touched
+use Rattle.touch.proofs.Laws.{never-refused}
 use Rattle.box_fault.specs.Laws.{RefusedExactlyWhen, NoBoxPastEight}
 use Rattle.box_fault.proofs.Decided.{told}
-use Rattle.box_fault.proofs.Boxes.{pair-refused, pair-passes, pair-decided}
+use Rattle.box_fault.proofs.Boxes.{pair-refused, pair-passes, pair-decided, touch-refused, touch-passes, touch-decided}
 use Rattle.box_fault.proofs.Outlines.{framed-refused, framed-passes, framed-decided}
 
 -- ---- an outcome is no refusal, and two refusals have two faults
@@ -49,6 +51,9 @@ fill-done found.NoBox f e = let z : _≡_ {A = ℕ} 0 1 = cc in omega arith
 fill-same : (f g : Fault) → filled.Refused f ≡ filled.Refused g → f ≡ g
 fill-same f g e = cc
 
+touch-same : (f g : Fault) → touched.Refused f ≡ touched.Refused g → f ≡ g
+touch-same f g e = cc
+
 -- ---- the calls
 
 pub refused-exactly-when : RefusedExactlyWhen
@@ -61,6 +66,8 @@ refused-exactly-when = record {
       told fill-same (fill-done (rectFillOf clip fill fringe)) (pair-passes clip fill fringe) (pair-refused clip fill fringe) (pair-decided clip fill fringe);
   upright-rect = λ verbs positions t.
       told box-same (box-done (uprightRectOf verbs positions t)) (framed-passes verbs positions t) (framed-refused verbs positions t) (framed-decided verbs positions t);
+  touch = λ bs fringe p.
+      told touch-same (never-refused bs fringe p) (touch-passes bs fringe p) (touch-refused bs fringe p) (touch-decided bs fringe p);
 }
 
 pub no-box-past-eight : NoBoxPastEight

@@ -2,7 +2,7 @@
 use mathlib.Core.Path.{_≡_, refl}
 use mathlib.Core.Bool.{Bool, true, false}
 use mathlib.Core.Logic.{inl, inr}
-use mathlib.Core.List.{List, [], _∷_}
+use mathlib.Core.List.{List}
 use Prim.Native.Nat.{ℕ, zero, suc, _≤_}
 use native.Mathlib.Omega.{arith}
 use lib.Dec.{leb, eqb}
@@ -16,8 +16,10 @@ use Rattle.geometry.specs.declared.Transform2D.{Transform2D}
 use Rattle.path.specs.Verbs.{unpackedOf}
 use Rattle.outline.specs.Outline.{verbCheckOf, verbsCheckOf, floatsNeededOf, allInRangeOf, outlineCheckOf}
 use Rattle.upright_rect.specs.Calls.{outlineFrameCheckOf}
-use Rattle.box_fault.specs.Causes.{InRange, frameNumbers, VerbFault, unknown, curve, Straight, FirstVerb, here, later, AllStraight, OutlineFault, too-many, of-verb, mismatch, of-position, FaultlessOutline, OutlineFrameFault, of-outline, of-frame}
+use Rattle.box_fault.specs.Causes.{InRange, frameNumbers, FirstAtFault, All, VerbFault, unknown, curve, Straight}
+use Rattle.box_fault.specs.Causes.{OutlineFault, too-many, of-verb, mismatch, of-position, FaultlessOutline, OutlineFrameFault, of-outline, of-frame}
 use Rattle.box_fault.proofs.Decided.{Decided}
+use Rattle.box_fault.proofs.Lists.{EachChecked, all-pass, first-refuses, all-decided}
 use Rattle.box_fault.proofs.Boxes.{frame-numbers}
 
 -- ---- one verb
@@ -50,25 +52,9 @@ verb-decided (suc (suc (suc (suc (suc (suc n)))))) = inr (UnknownVerb, unknown (
 
 -- ---- all verbs
 
-verbs-straight : (verbs : List ℕ) → AllStraight verbs → verbsCheckOf verbs ≡ check.Pass
+each-verb : EachChecked Straight VerbFault verbCheckOf verbsCheckOf
 unfolding verbsCheckOf
-verbs-straight [] h = refl
-verbs-straight (byte ∷ bytes) h = rw (verb-straight byte (h .0)) (verbs-straight bytes (h .1))
-
-verbs-at-fault : (verbs : List ℕ) (f : Fault) → FirstVerb verbs f → verbsCheckOf verbs ≡ check.Refused f
-unfolding verbsCheckOf
-verbs-at-fault (byte ∷ bytes) f (here e) = rw (verb-at-fault byte f e)
-verbs-at-fault (byte ∷ bytes) f (later s e) = rw (verb-straight byte s) (verbs-at-fault bytes f e)
-
-verbs-decided : (verbs : List ℕ) → Decided (AllStraight verbs) (FirstVerb verbs)
-verbs-decided [] = inl tt
-verbs-decided (byte ∷ bytes) = go (verb-decided byte) (verbs-decided bytes)
-  where
-    go : Decided (Straight byte) (VerbFault byte) → Decided (AllStraight bytes) (FirstVerb bytes)
-        → Decided (AllStraight (byte ∷ bytes)) (FirstVerb (byte ∷ bytes))
-    go (inr (f, e)) d = inr (f, here e)
-    go (inl s) (inr (f, e)) = inr (f, later s e)
-    go (inl s) (inl h) = inl (s, h)
+each-verb = record { none = refl; next = λ byte bytes. refl; passes = verb-straight; caused = verb-at-fault }
 
 -- ---- the outline
 
@@ -76,19 +62,19 @@ module _ (verbs : List ℕ) (positions : List Float) where
   pub outline-refused : (f : Fault) → OutlineFault verbs positions f → outlineCheckOf verbs positions ≡ check.Refused f
   unfolding outlineCheckOf
   outline-refused f (too-many l) = rw (lt-leb _ _ l)
-  outline-refused f (of-verb l e) = rw (le-leb _ _ l, verbs-at-fault verbs f e)
-  outline-refused f (mismatch l s n) = rw (le-leb _ _ l, verbs-straight verbs s, ne-eqb _ _ n)
-  outline-refused f (of-position l s e h) = rw (le-leb _ _ l, verbs-straight verbs s, eq-eqb _ _ e, h)
+  outline-refused f (of-verb l e) = rw (le-leb _ _ l, first-refuses each-verb verbs f e)
+  outline-refused f (mismatch l s n) = rw (le-leb _ _ l, all-pass each-verb verbs s, ne-eqb _ _ n)
+  outline-refused f (of-position l s e h) = rw (le-leb _ _ l, all-pass each-verb verbs s, eq-eqb _ _ e, h)
 
   pub outline-passes : FaultlessOutline verbs positions → outlineCheckOf verbs positions ≡ check.Pass
   unfolding outlineCheckOf
-  outline-passes h = rw (le-leb _ _ (h .few), verbs-straight verbs (h .straight), eq-eqb _ _ (h .match), h .in-range)
+  outline-passes h = rw (le-leb _ _ (h .few), all-pass each-verb verbs (h .straight), eq-eqb _ _ (h .match), h .in-range)
 
   pub outline-decided : Decided (FaultlessOutline verbs positions) (OutlineFault verbs positions)
   outline-decided =
-      go (leb (length verbs) 256) (verbs-decided verbs) (eqb (floatsNeededOf verbs) (length positions)) (allInRangeOf positions) refl refl refl
+      go (leb (length verbs) 256) (all-decided verb-decided verbs) (eqb (floatsNeededOf verbs) (length positions)) (allInRangeOf positions) refl refl refl
     where
-      go : (few : Bool) → Decided (AllStraight verbs) (FirstVerb verbs) → (match good : Bool) → leb (length verbs) 256 ≡ few
+      go : (few : Bool) → Decided (All Straight verbs) (FirstAtFault Straight VerbFault verbs) → (match good : Bool) → leb (length verbs) 256 ≡ few
           → eqb (floatsNeededOf verbs) (length positions) ≡ match → allInRangeOf positions ≡ good
           → Decided (FaultlessOutline verbs positions) (OutlineFault verbs positions)
       go false d match good l m g = inr (TooManyVerbs, too-many (leb-false _ _ l))

@@ -11,9 +11,8 @@ use Rattle.shape.specs.declared.RoundedBox.{RoundedBox}
 use Rattle.shape.specs.declared.BoxAnswer.the-variants as box
 use Rattle.covering.specs.declared.CoverageAnswer.the-variants as covered
 use Rattle.covering.specs.Calls.{coverageCall}
-use Rattle.touch.specs.declared.TouchAnswer.{TouchAnswer}
 use Rattle.touch.specs.declared.TouchAnswer.the-variants as touched
-use Rattle.touch.specs.Touch.{TouchRule}
+use Rattle.touch.specs.Touch.{touchCall}
 use Rattle.scissor.specs.declared.ScissorAnswer.the-variants as scissor
 use Rattle.scissor.specs.Calls.{withScissorCall, trimmedScissorCall}
 
@@ -75,7 +74,7 @@ pub record TrimMeets (picture window trim : RoundedBox) (f : Fault) : Type 0 whe
   pub trimmed : trimmedScissorCall picture window f1 ≡ box.Box trim
   pub coverage : coverageCall trim f1 ≡ covered.Refused f
   pub with-scissor : withScissorCall window trim f1 ≡ scissor.Refused f
-  pub touch : (r : TouchAnswer) → TouchRule (window ∷ trim ∷ []) f1 origin r → r ≡ touched.Refused f
+  pub touch : touchCall (window ∷ trim ∷ []) f1 origin ≡ touched.Refused f
 
 -- 'any later call whose first fault is that box meets number 2, or 1 where a number in it is over 2^20'
 abbrev pub Apart : Type 0

@@ -9,9 +9,11 @@ use lib.Ieee.{Float, lt}
 use lib.ListN.{length}
 use Rattle.float.specs.Ops.{f0}
 use Rattle.fault.specs.declared.Fault.{Fault}
-use Rattle.fault.specs.declared.Fault.the-variants.{NumberOutOfRange, ImproperBox, UnknownVerb, PositionsMismatch, CurveVerb, TooManyVerbs}
+use Rattle.fault.specs.declared.Fault.the-variants.{NumberOutOfRange, ImproperBox, UnknownVerb, PositionsMismatch, CurveVerb, TooManyVerbs, TooManyBoxes}
+use Rattle.geometry.specs.declared.Position.{Position}
 use Rattle.geometry.specs.declared.Transform2D.{Transform2D}
 use Rattle.shape.specs.declared.RoundedBox.{RoundedBox}
+use Rattle.boxes.specs.Checks.{mostBoxes}
 use Rattle.outline.specs.Outline.{floatsNeededOf, allInRangeOf}
 
 -- ---- numbers
@@ -30,6 +32,16 @@ frameNumbers t = t .a ∷ t .b ∷ t .c ∷ t .d ∷ t .x ∷ t .y ∷ []
 abbrev pub boxNumbers : RoundedBox → List Float
 boxNumbers b =
     b .frame .a ∷ b .frame .b ∷ b .frame .c ∷ b .frame .d ∷ b .frame .x ∷ b .frame .y ∷ b .ex ∷ b .ey ∷ b .rx ∷ b .ry ∷ []
+
+-- ---- lists: the first at fault, and none
+
+pub data FirstAtFault {A : Type 0} (Good : A → Type 0) (AtFault : A → Fault → Type 0) : List A → Fault → Type 0 where
+  here : {x : A} {xs : List A} {f : Fault} → AtFault x f → FirstAtFault Good AtFault (x ∷ xs) f
+  later : {x : A} {xs : List A} {f : Fault} → Good x → FirstAtFault Good AtFault xs f → FirstAtFault Good AtFault (x ∷ xs) f
+
+abbrev pub All : {A : Type 0} → (A → Type 0) → List A → Type 0
+All Good [] = Unit
+All Good (x ∷ xs) = Good x × All Good xs
 
 -- ---- one box
 
@@ -56,6 +68,17 @@ pub data PairFault (one two : RoundedBox) (fringe : Float) : Fault → Type 0 wh
   of-second : {f : Fault} → Faultless one → BoxFault two f → PairFault one two fringe f
   of-fringe : Faultless one → Faultless two → OutOfRange (fringe ∷ []) → PairFault one two fringe NumberOutOfRange
 
+-- ---- a touch list: '12, then per box 1, 2, first box before second, then 1 for a lone frame, fringe and point'. What
+-- the boxes hold does not come into it: a box at fault refuses the list, whether or not a box before it is touched
+
+abbrev pub touchNumbers : Float → Position → List Float
+touchNumbers fringe p = fringe ∷ p .x ∷ p .y ∷ []
+
+pub data TouchFault (bs : List RoundedBox) (fringe : Float) (p : Position) : Fault → Type 0 where
+  too-many-boxes : mostBoxes < length bs → TouchFault bs fringe p TooManyBoxes
+  of-box : {f : Fault} → length bs ≤ mostBoxes → FirstAtFault Faultless BoxFault bs f → TouchFault bs fringe p f
+  of-touch : length bs ≤ mostBoxes → All Faultless bs → OutOfRange (touchNumbers fringe p) → TouchFault bs fringe p NumberOutOfRange
+
 -- ---- an outline: '11, then verbs in order (8 or 10 at the first verb at fault), 9, then 1 for positions'
 
 -- 'a verb byte above 5' is 8, 'a curve verb given to the fitter', which is 2, is 10
@@ -66,26 +89,17 @@ pub data VerbFault (byte : ℕ) : Fault → Type 0 where
 abbrev pub Straight : ℕ → Type 0
 Straight byte = (byte ≤ 5) × (byte ≡ 2 → ⊥)
 
--- the first verb at fault, and none
-pub data FirstVerb : List ℕ → Fault → Type 0 where
-  here : {byte : ℕ} {bytes : List ℕ} {f : Fault} → VerbFault byte f → FirstVerb (byte ∷ bytes) f
-  later : {byte : ℕ} {bytes : List ℕ} {f : Fault} → Straight byte → FirstVerb bytes f → FirstVerb (byte ∷ bytes) f
-
-abbrev pub AllStraight : List ℕ → Type 0
-AllStraight [] = Unit
-AllStraight (byte ∷ bytes) = Straight byte × AllStraight bytes
-
 pub data OutlineFault (verbs : List ℕ) (positions : List Float) : Fault → Type 0 where
   too-many : 256 < length verbs → OutlineFault verbs positions TooManyVerbs
-  of-verb : {f : Fault} → length verbs ≤ 256 → FirstVerb verbs f → OutlineFault verbs positions f
-  mismatch : length verbs ≤ 256 → AllStraight verbs → (floatsNeededOf verbs ≡ length positions → ⊥)
+  of-verb : {f : Fault} → length verbs ≤ 256 → FirstAtFault Straight VerbFault verbs f → OutlineFault verbs positions f
+  mismatch : length verbs ≤ 256 → All Straight verbs → (floatsNeededOf verbs ≡ length positions → ⊥)
       → OutlineFault verbs positions PositionsMismatch
-  of-position : length verbs ≤ 256 → AllStraight verbs → floatsNeededOf verbs ≡ length positions → OutOfRange positions
+  of-position : length verbs ≤ 256 → All Straight verbs → floatsNeededOf verbs ≡ length positions → OutOfRange positions
       → OutlineFault verbs positions NumberOutOfRange
 
 pub record FaultlessOutline (verbs : List ℕ) (positions : List Float) : Type 0 where
   pub few : length verbs ≤ 256
-  pub straight : AllStraight verbs
+  pub straight : All Straight verbs
   pub match : floatsNeededOf verbs ≡ length positions
   pub in-range : InRange positions
 

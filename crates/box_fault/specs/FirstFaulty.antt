@@ -3,7 +3,7 @@
 -- where it takes one, whatever else is given. Proved in proofs/FirstFaulty.antt.
 use mathlib.Core.Path.{_≡_}
 use mathlib.Core.Bool.{Bool, true, cond, _||_}
-use mathlib.Core.List.{List, [], _∷_, _++_}
+use mathlib.Core.List.{List, _∷_, _++_}
 use Prim.Native.Nat.{_≤_}
 use lib.Ieee.{Float, lt}
 use lib.ListN.{length}
@@ -30,11 +30,10 @@ use Rattle.scissor.specs.Calls.{withScissorCall, trimmedScissorCall}
 use Rattle.fill.specs.declared.FillAnswer.the-variants as filled
 use Rattle.fill.specs.Calls.{rectFillCall}
 use Rattle.boxes.specs.Checks.{mostBoxes}
-use Rattle.touch.specs.declared.TouchAnswer.{TouchAnswer}
 use Rattle.touch.specs.declared.TouchAnswer.the-variants as touched
-use Rattle.touch.specs.Touch.{TouchRule}
+use Rattle.touch.specs.Touch.{touchCall}
 use Rattle.outline.specs.Outline.{allInRangeOf}
-use Rattle.box_fault.specs.Causes.{boxNumbers, Faultless}
+use Rattle.box_fault.specs.Causes.{All, boxNumbers, Faultless}
 
 -- 'a negative half extent'
 abbrev pub belowZeroOf : RoundedBox → Bool
@@ -71,16 +70,11 @@ pub record AsSecond (one : RoundedBox) : Type 0 where
   pub trimmed-scissor : (fringe : Float) → Meets box.Refused (λ b. trimmedScissorCall one b fringe)
   pub rect-fill : (fringe : Float) → Meets filled.Refused (λ b. rectFillCall one b fringe)
 
--- in a touch list, at any place: the list is short enough and the boxes before are without fault. `TouchRule` is all
--- that a touch promises of its answer
-abbrev pub AllFaultless : List RoundedBox → Type 0
-AllFaultless [] = Unit
-AllFaultless (b ∷ bs) = Faultless b × AllFaultless bs
-
+-- in a touch list, at any place: the list is short enough and the boxes before are without fault, touched or not
 abbrev pub Listed : Type 0
-Listed = (before after : List RoundedBox) (b : RoundedBox) (fringe : Float) (p : Position) (r : TouchAnswer)
-    → length (before ++ b ∷ after) ≤ mostBoxes → AllFaultless before → belowZeroOf b ≡ true
-    → TouchRule (before ++ b ∷ after) fringe p r → r ≡ touched.Refused (causeOf b)
+Listed = (before after : List RoundedBox) (b : RoundedBox) (fringe : Float) (p : Position)
+    → length (before ++ b ∷ after) ≤ mostBoxes → All Faultless before → belowZeroOf b ≡ true
+    → touchCall (before ++ b ∷ after) fringe p ≡ touched.Refused (causeOf b)
 
 pub record FirstFaultyBox : Type 0 where
   pub number : (b : RoundedBox) → numberOf (causeOf b) ≡ cond (allInRangeOf (boxNumbers b)) 2 1

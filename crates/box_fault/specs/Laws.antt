@@ -1,11 +1,12 @@
--- The calls that document 02's change 1 adds are refused exactly for their first cause (Causes.antt). `reach` and
--- `holds` refuse nothing. Proved in proofs/Laws.antt.
+-- The calls that document 02's change 1 adds, and touch, are refused exactly for their first cause (Causes.antt).
+-- `reach` and `holds` refuse nothing. Proved in proofs/Laws.antt.
 use mathlib.Core.Path.{_≡_}
 use mathlib.Core.List.{List}
 use Prim.Native.Nat.{ℕ, _<_}
 use lib.Ieee.{Float}
 use lib.ListN.{length}
 use Rattle.fault.specs.declared.Fault.{Fault}
+use Rattle.geometry.specs.declared.Position.{Position}
 use Rattle.geometry.specs.declared.Transform2D.{Transform2D}
 use Rattle.shape.specs.declared.RoundedBox.{RoundedBox}
 use Rattle.shape.specs.declared.BoxAnswer.the-variants as box
@@ -14,7 +15,9 @@ use Rattle.scissor.specs.Calls.{withScissorCall, trimmedScissorCall}
 use Rattle.fill.specs.declared.FillAnswer.the-variants as filled
 use Rattle.fill.specs.Calls.{rectFillCall}
 use Rattle.upright_rect.specs.Calls.{uprightRectCall}
-use Rattle.box_fault.specs.Causes.{InRange, frameNumbers, PairFault, FaultlessOutline, OutlineFrameFault}
+use Rattle.touch.specs.declared.TouchAnswer.the-variants as touched
+use Rattle.touch.specs.Touch.{touchCall}
+use Rattle.box_fault.specs.Causes.{InRange, frameNumbers, PairFault, TouchFault, FaultlessOutline, OutlineFrameFault}
 
 -- an answer is the refusal with a fault exactly when that is its first cause
 pub record ForItsFirstCause {A : Type 0} (refused : Fault → A) (answer : A) (Cause : Fault → Type 0) : Type 0 where
@@ -30,6 +33,8 @@ pub record RefusedExactlyWhen : Type 0 where
       → ForItsFirstCause filled.Refused (rectFillCall clip fill fringe) (PairFault clip fill fringe)
   pub upright-rect : (verbs : List ℕ) (positions : List Float) (t : Transform2D)
       → ForItsFirstCause box.Refused (uprightRectCall verbs positions t) (OutlineFrameFault verbs positions t)
+  pub touch : (bs : List RoundedBox) (fringe : Float) (p : Position)
+      → ForItsFirstCause touched.Refused (touchCall bs fringe p) (TouchFault bs fringe p)
 
 -- Document 02, change 1: 'A done call of `upright_rect` gives no box for a straight outline of more than 8 verbs'
 abbrev pub NoBoxPastEight : Type 0

@@ -19,7 +19,7 @@ use Rattle.boxes.specs.declared.Found.{Found}
 use Rattle.boxes.specs.declared.Found.the-variants.{At, Nowhere, Refused}
 use Rattle.boxes.specs.Checks.{countCheckOf, boxesCheckOf}
 use Rattle.boxes.specs.First.{asksOf, firstFrom, firstPlaceOf}
-use Rattle.boxes.specs.Walk.{startOf, refusalOf, passes, goesOn, orElse, stepOf}
+use Rattle.boxes.specs.Walk.{startOf, refusalOf, passes, goesOn, stepBy, stepOf}
 
 -- what comes of r, found before place i, where `rest` are the boxes from there on
 abbrev pub resultOf : Found → ℕ → List RoundedBox → Ask → Found
@@ -48,7 +48,7 @@ asked false i rest q = refl
 
 stepped : (c : Check) (t : Bool) (r : Found) (i : ℕ) (b : RoundedBox) (rest : List RoundedBox) (q : Ask)
     → boxCheckOf b ≡ c → asksOf q b ≡ t → Holds (passes (refusalOf r))
-    → resultOf r i (b ∷ rest) q ≡ resultOf (answerUnless Refused c (orElse r (cond t (At i) Nowhere))) (suc i) rest q
+    → resultOf r i (b ∷ rest) q ≡ resultOf (stepBy c t r i) (suc i) rest q
 stepped check.Pass t (At k) i b rest q e a g = rw e
 stepped check.Pass t Nowhere i b rest q e a g = rw (e, a) (asked t i rest q)
 stepped (check.Refused f) t (At k) i b rest q e a g = rw e

@@ -36,5 +36,9 @@ orElse (At k) r = At k
 orElse Nowhere r = r
 orElse (Refused f) r = Refused f
 
+-- what is found after box i, by what its check says and whether the ask holds of it
+abbrev pub stepBy : Check → Bool → Found → ℕ → Found
+stepBy c holds r i = answerUnless Refused c (orElse r (cond holds (At i) Nowhere))
+
 abbrev pub stepOf : Found → RoundedBox → ℕ → Ask → Found
-stepOf r b i q = answerUnless Refused (boxCheckOf b) (orElse r (cond (asksOf q b) (At i) Nowhere))
+stepOf r b i q = stepBy (boxCheckOf b) (asksOf q b) r i

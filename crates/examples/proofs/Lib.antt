@@ -1,3 +1,3 @@
--- Shown: the theorem `starred-shown`. Touched: `edges-take-a-finger`.
+-- Shown: the theorem `starred-shown`. Touched: `edges-take-a-finger`, `first-of-several`.
 pub mod Shown
 pub mod Touched

@@ -1,4 +1,4 @@
--- Starred: document 01's twelve starred examples, and what it is that they are shown. Touches: what document 02, change
--- 2, makes of a touch past a box.
+-- Starred: document 01's twelve starred examples, and what it is that they are shown. Touches: what document 02 makes of
+-- a touch past a box, change 2, and of one that several boxes hold, change 3.
 pub mod Starred
 pub mod Touches

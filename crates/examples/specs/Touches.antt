@@ -1,9 +1,12 @@
--- Document 02, change 2: what the call on one box answers half a fringe width past the outline and one float further.
--- Definitions only; proofs/Touched.antt computes them.
+-- Document 02, change 2: what the call on one box answers half a fringe width past the outline and one float further;
+-- change 3: what the call on a list answers where several boxes hold the touch. Definitions only; proofs/Touched.antt
+-- computes them.
 use mathlib.Core.Path.{_≡_}
 use mathlib.Core.Bool.{Bool, true, false}
+use mathlib.Core.List.{List, [], _∷_}
 use lib.Ieee.{Float, nan, binary32, ofBits}
-use Rattle.float.specs.Ops.{f0, f1, f2}
+use Rattle.float.specs.Ops.{f0, f1, f2, f-1}
+use Rattle.fault.specs.declared.Fault.the-variants.{NumberOutOfRange, ImproperBox}
 use Rattle.geometry.specs.declared.Position.{Position}
 use Rattle.shape.specs.declared.RoundedBox.{RoundedBox}
 use Rattle.shape.specs.declared.TestAnswer.the-variants.{Done}
@@ -14,6 +17,9 @@ use Rattle.covering.specs.declared.MaybeCoverage.the-variants.{Coverage}
 use Rattle.covering.specs.Coverage.{coverageOf}
 use Rattle.covering.specs.Laws.{onOrInsideOf}
 use Rattle.covering.specs.Calls.{touchesCall}
+use Rattle.touch.specs.declared.TouchAnswer.{TouchAnswer}
+use Rattle.touch.specs.declared.TouchAnswer.the-variants.{Frame, Refused}
+use Rattle.touch.specs.Touch.{touchCall}
 use Rattle.examples.specs.Starred.{f4}
 
 -- 10^-36; 0.4375; 4.5, 5 and the float after each
@@ -48,6 +54,10 @@ point x y = record { x = x; y = y }
 abbrev pub square : RoundedBox
 square = upright f4 f4 f0
 
+-- too thin for a coverage at a fringe of 1
+abbrev pub sliver : RoundedBox
+sliver = upright f7/16 f4 f0
+
 -- too far away for a fringe of 10^-36: the distance at its centre is ∞ - ∞
 abbrev pub far : RoundedBox
 far = uprightAt largestNumber f4 f4 f0
@@ -69,7 +79,20 @@ pub record EdgesTakeAFinger : Type 0 where
   -- the distance from a round corner, 0.828, not from the sides, 0
   pub corner : Touched (upright f4 f4 f2) f1 (point f4 f4) false
   -- no coverage, however near
-  pub thin : Touched (upright f7/16 f4 f0) f1 (point f0 f0) false
+  pub thin : Touched sliver f1 (point f0 f0) false
   -- a distance that is a NaN
   pub no-number : (k : ClipCoverage) × (coverageOf far tiny ≡ Coverage k) × (distanceOf k farCentre ≡ nan)
   pub at-no-number : Touched far tiny farCentre false
+
+-- a list is touched at the origin
+abbrev pub Names : List RoundedBox → Float → TouchAnswer → Type 0
+Names bs fringe answer = touchCall bs fringe (point f0 f0) ≡ answer
+
+pub record FirstOfSeveral : Type 0 where
+  -- both hold the touch
+  pub both : Names (square ∷ square ∷ []) f1 (Frame 0)
+  -- the first has no coverage
+  pub second : Names (sliver ∷ square ∷ []) f1 (Frame 1)
+  -- the first holds it, and the list is refused for the second, or for its fringe
+  pub at-fault : Names (square ∷ upright f-1 f4 f0 ∷ []) f1 (Refused ImproperBox)
+  pub no-fringe : Names (square ∷ square ∷ []) nan (Refused NumberOutOfRange)

@@ -1,5 +1,5 @@
--- Rule: what is found becomes an answer that meets the rule. Laws: the rule read from the answer. Steps: what walks
--- by hand know of an answer.
-pub mod Rule
+-- Finished: what is found becomes the answer of the call. Laws: the answer read back. Steps: what walks by hand know of
+-- an answer.
+pub mod Finished
 pub mod Laws
 pub mod Steps

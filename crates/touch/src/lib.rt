@@ -7,7 +7,7 @@ ghost use Prim.Native.Nat.{_*_, _≤_};
 ghost use lib.ListN.{length};
 ghost use mathlib.Core.Path.{_≡_};
 ghost use Rattle.boxes.specs.Lent.{boxesIn};
-ghost use Rattle.touch.specs.Touch.{pointOf, TouchRule};
+ghost use Rattle.touch.specs.Touch.{pointOf, touchCall};
 ghost use Rattle.touch.specs.Finish.{touchAsk, finishCheckOf, PlaceFits, answerOf, finishOf};
 use boxes::Ask;
 use boxes::Found;
@@ -17,7 +17,7 @@ use geometry::Position;
 use shape::RoundedBox;
 
 pub enum TouchAnswer {
-    // the place of a box that the point touches, counted from 0
+    // the lowest place whose box the point touches, counted from 0
     Frame(u8),
     NoFrame,
     Refused(Fault),
@@ -64,12 +64,11 @@ fn finish(found: Found, fringe: f32, x: f32, y: f32) -> TouchAnswer
     answer(found)
 }
 
-// The place of some box that the point touches: one whose coverage exists and whose distance at the
-// point is at most 0.5, in fringe widths. Which one, document 01 leaves free, and so does the contract.
-// Ruled out: 'no frame' untried; a walk over the first box alone; a place found before the list is
-// refused; a place beside the box's.
+// The lowest place whose box the point touches: a box whose coverage exists and whose distance at the
+// point is at most 0.5, in fringe widths. Ruled out: a later box of those touched; a place named where a
+// box after it is at fault; 'no frame' untried; a walk over the first box alone; a place beside the box's.
 pub fn touch(boxes: &[RoundedBox], fringe: f32, x: f32, y: f32) -> TouchAnswer
-    ensures { λ r. ⌜ TouchRule (now (boxes .entry)) fringe (pointOf x y) r ⌝ }
+    ensures { λ r. ⌜ r ≡ touchCall (now (boxes .entry)) fringe (pointOf x y) ⌝ }
 {
     let found = boxes::first_place(boxes, touch_ask(fringe, x, y));
     finish(found, fringe, x, y)
@@ -79,7 +78,7 @@ pub fn touch(boxes: &[RoundedBox], fringe: f32, x: f32, y: f32) -> TouchAnswer
 // and need no walk of their own.
 pub fn touch_floats(floats: &[f32], n: usize, fringe: f32, x: f32, y: f32) -> TouchAnswer
     requires { ⌜ n * 10 ≤ length (now floats) ⌝ }
-    ensures { λ r. ⌜ TouchRule (boxesIn (now (floats .entry)) n) fringe (pointOf x y) r ⌝ }
+    ensures { λ r. ⌜ r ≡ touchCall (boxesIn (now (floats .entry)) n) fringe (pointOf x y) ⌝ }
 {
     let found = boxes::first_place_in(floats, n, touch_ask(fringe, x, y));
     finish(found, fringe, x, y)

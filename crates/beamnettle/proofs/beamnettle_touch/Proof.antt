@@ -1,6 +1,6 @@
 -- `beamnettle::beamnettle_touch` meets its contract: a walk by hand, as that of `touch::touch` is: two calls and no
 -- branch. Assumes nothing.
-use mathlib.Core.Path.{_≡_, refl, ap}
+use mathlib.Core.Path.{_≡_, refl, ap, _∙_}
 use Prim.Native.Nat.{ℕ, _<_, _^_}
 use mathlib.Core.List.{List, [], _∷_}
 use lib.Ieee.{Float, binary32}
@@ -101,9 +101,8 @@ use denote.Exit.{yes}
 use denote.Triple.Clauses.{ensured, lasts}
 use Rattle.shape.specs.declared.RoundedBox.{RoundedBox}
 use Rattle.touch.specs.declared.TouchAnswer.{TouchAnswer}
-use Rattle.touch.specs.Touch.{pointOf, TouchRule}
+use Rattle.touch.specs.Touch.{pointOf, touchCall}
 use Rattle.boundary.specs.Answers.{touchNumber}
-use Rattle.beamnettle.specs.Calls.{TouchNumber}
 use Rattle.boxes.proofs.Steps.{single, IsSingle, own-value, has-single, has-value, answered}
 use Rattle.touch.proofs.Steps.{answers, tval, IsAnswer}
 use Rattle.shape.proofs.RoundedBox as T
@@ -170,7 +169,7 @@ module _ {M : Type 1} (𝓤 : URA M) (H : Heap 𝓤) (A : Atoms 𝓤) (W : Given
 
     module _ (gf : IsSingle fringe) (gx : IsSingle x) (gy : IsSingle y) where
       -- ---- the exit, with the number m
-      exits : (m : ℕ) → m < 2 ^ 32 → TouchNumber bs fringe (pointOf x y) m → ent 𝓤 (⋆ 𝓤 H A (‵ (flft κ q) ∷ ‵ Own ∷ [])) (Post (vint w32 m))
+      exits : (m : ℕ) → m < 2 ^ 32 → m ≡ touchNumber (touchCall bs fringe (pointOf x y)) → ent 𝓤 (⋆ 𝓤 H A (‵ (flft κ q) ∷ ‵ Own ∷ [])) (Post (vint w32 m))
       exits m g e =
           qed W (‵ (flft κ q) ∷ ‵ Own ∷ []) ∵
           suffices ! _ (
@@ -191,9 +190,9 @@ module _ {M : Type 1} (𝓤 : URA M) (H : Heap 𝓤) (A : Atoms 𝓤) (W : Given
 
       touch-said : (t : TouchAnswer)
           → ent 𝓤 (ensured 𝓤 H A touch.ended (touch.clauses 𝓤 H A mem run) (κ, tt) (s, (fringe, (x, (y, tt)))) tt t)
-          (fact 𝓤 (TouchRule bs fringe (pointOf x y) t))
+          (fact 𝓤 (t ≡ touchCall bs fringe (pointOf x y)))
       touch-said t =
-          exE 𝓤 _ (λ ws. snd∗ 𝓤 (sem 𝓤 H A (lasts touch.ended (κ, tt) (s, (fringe, (x, (y, tt)))) ws)) (fact 𝓤 (TouchRule bs fringe (pointOf x y) t)))
+          exE 𝓤 _ (λ ws. snd∗ 𝓤 (sem 𝓤 H A (lasts touch.ended (κ, tt) (s, (fringe, (x, (y, tt)))) ws)) (fact 𝓤 (t ≡ touchCall bs fringe (pointOf x y))))
 
       -- ---- the walk
       module _ (𝓣 : Tables 𝓤 H) (known-touch : Triple 𝓤 (𝓣 .C #touch) TouchC) (known-number : Triple 𝓤 (𝓣 .C #number) NumberC)
@@ -245,7 +244,7 @@ module _ {M : Type 1} (𝓤 : URA M) (H : Heap 𝓤) (A : Atoms 𝓤) (W : Given
               forget ! 2 refl $ forget ! 4 refl $ forget ! 6 refl $ forget ! 8 refl $ forget ! 10 refl $ forget ! 12 refl $
               move ! (12 ∷ 13 ∷ []) $ free1 ! $ move ! (10 ∷ 11 ∷ []) $ free1 ! $ move ! (8 ∷ 9 ∷ []) $ free1 ! $
               move ! (6 ∷ 7 ∷ []) $ free1 ! $ move ! (4 ∷ 5 ∷ []) $ free1 ! $ move ! (2 ∷ 3 ∷ []) $ free1 ! $ free0 ! $
-              by ! (exits m (is′ .1) (t, e, e′))))))
+              by ! (exits m (is′ .1) (e′ ∙ ap touchNumber e))))))
 
         walk : ent 𝓤 (onEntry 𝓤 H A f.signature (κ, tt) (q, tt) (s, (fringe, (x, (y, tt)))) at)
             (WpFn 𝓤 H C Λ code.function (v ∷ vfloat binary32 fringe ∷ vfloat binary32 x ∷ vfloat binary32 y ∷ []) Post)

@@ -1,7 +1,7 @@
 -- `touch::touch` meets its contract. The borrow checker covers no function over a slice of structs, so its walk is
 -- written out here, as that of `boxes::first_place` is (see there): three calls, each known by its contract alone.
 -- Assumes nothing.
-use mathlib.Core.Path.{_≡_, refl, sym, ap, _∙_, subst}
+use mathlib.Core.Path.{_≡_, refl, ap, _∙_, subst}
 use Prim.Native.Nat.{ℕ}
 use mathlib.Core.List.{List, [], _∷_}
 use lib.Ieee.{Float, binary32}
@@ -105,9 +105,9 @@ use Rattle.boxes.specs.declared.Found.{Found}
 use Rattle.boxes.specs.First.{firstPlaceOf}
 use Rattle.boxes.proofs.Steps.{single, IsSingle, IsValue, asks, founds, qval, rval, own-value, has-single, has-value, answered}
 use Rattle.touch.specs.declared.TouchAnswer.{TouchAnswer}
-use Rattle.touch.specs.Touch.{pointOf, TouchRule}
+use Rattle.touch.specs.Touch.{pointOf}
 use Rattle.touch.specs.Finish.{touchAsk, finishOf}
-use Rattle.touch.proofs.Rule.{place-fits, meets-rule}
+use Rattle.touch.proofs.Finished.{place-fits, finishes}
 use Rattle.touch.proofs.Steps.{answers, tval, IsAnswer}
 use Rattle.shape.proofs.RoundedBox as T
 use Rattle.boxes.proofs.Ask as Q
@@ -232,7 +232,7 @@ module _ {M : Type 1} (𝓤 : URA M) (H : Heap 𝓤) (A : Atoms 𝓤) (W : Given
           suffices ! _ (
           ends-at 𝓤 H A f.ended kept (f.clauses 𝓤 H A mem run) W bound (tval t) t (tt, (tt, (tt, (tt, tt)))) (tt, (tt, (tt, (tt, tt))))
           ) $
-          says ! (subst (TouchRule bs fringe (pointOf x y)) (sym e) (meets-rule bs fringe x y)) $
+          says ! (e ∙ finishes fringe (pointOf x y) bs) $
           nothing ! $ move ! (1 ∷ 0 ∷ []) $ join ! $ frame ! $
           nothing ! $ has-single ! y gy $ fjoin ! $ has-single ! x gx $ fjoin ! $ has-single ! fringe gf $ fjoin ! $
           move ! (1 ∷ 0 ∷ []) $ fjoin ! $ frame ! $ has-value ! answers t is $ done !

@@ -1,7 +1,8 @@
 -- `touch::touch_floats` meets its contract. Assumes nothing.
 use borrow.Author.Needs.{needs}
 use Rattle.boxes.specs.Lent.{boxesIn}
-use Rattle.touch.proofs.Rule.{place-fits, meets-rule}
+use Rattle.touch.specs.Touch.{pointOf}
+use Rattle.touch.proofs.Finished.{place-fits, finishes}
 use Rattle.touch.proofs.touch_floats.Statement.{statement}
 use Rattle.touch.proofs.touch_floats.Tie as tie
 
@@ -16,7 +17,7 @@ returns c =
     let at-ask = c .before .before in
     let a = at-ask .before .before .args in
     rw (c .finish .ensures, c .before .first-place-in .ensures, at-ask .touch-ask .ensures)
-    (meets-rule (boxesIn (a .floats .now) (a .n)) (a .fringe) (a .x) (a .y))
+    (finishes (a .fringe) (pointOf (a .x) (a .y)) (boxesIn (a .floats .now) (a .n)))
 
 pub touch-floats-spec : {M : Type 1} → statement M
 touch-floats-spec =
