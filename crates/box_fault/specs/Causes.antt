@@ -33,7 +33,7 @@ abbrev pub boxNumbers : RoundedBox → List Float
 boxNumbers b =
     b .frame .a ∷ b .frame .b ∷ b .frame .c ∷ b .frame .d ∷ b .frame .x ∷ b .frame .y ∷ b .ex ∷ b .ey ∷ b .rx ∷ b .ry ∷ []
 
--- ---- lists: the first at fault, and none
+-- ---- lists: the first element at fault, where all before it are good; and all good
 
 pub data FirstAtFault {A : Type 0} (Good : A → Type 0) (AtFault : A → Fault → Type 0) : List A → Fault → Type 0 where
   here : {x : A} {xs : List A} {f : Fault} → AtFault x f → FirstAtFault Good AtFault (x ∷ xs) f
