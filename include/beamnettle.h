@@ -10,8 +10,9 @@
  * at the same time in several threads where none writes what another is lent.
  *
  * Where fewer floats are lent than a box, frame, coverage, bounds or answer takes, the number is 4, before
- * any other cause. More may be lent: what lies past them is neither read nor changed. Only 0, 36 and 37 write
- * anything, what their functions say: on every other number all lent memory is left as it was.
+ * any other cause. More may be lent: what lies past them is neither read nor changed. Only 0, 36, 37 and the
+ * lengths of beamnettle_write_pgm write anything, what their functions say: on every other number all lent memory
+ * is left as it was.
  *
  * Floats. Calls run with the processor's default settings: rounding to nearest, subnormal numbers kept
  * (no flush to zero, no denormals are zero), no floating-point exception trapped. Where these are changed,
@@ -40,14 +41,15 @@
 extern "C" {
 #endif
 
-/* What a function returns: 8 bits, but for beamnettle_touch, which returns 32. 1 to 31 are refusals alone. */
+/* What a function returns: 8 bits, but for beamnettle_touch and beamnettle_write_pgm, which return 32. 1 to 31 are
+ * refusals alone. */
 enum {
     BEAMNETTLE_DONE = 0,
     /* refused: */
     BEAMNETTLE_NUMBER_OUT_OF_RANGE = 1,     /* a number is not finite, or its size is over 2^20 */
     BEAMNETTLE_IMPROPER_BOX = 2,            /* a half extent or radius below 0, or a radius over its half extent */
     BEAMNETTLE_MASK_TOO_LARGE = 3,          /* a mask width or height over 4,096 */
-    BEAMNETTLE_BUFFER_TOO_SHORT = 4,        /* mask, other mask, scratch or lent floats too short */
+    BEAMNETTLE_BUFFER_TOO_SHORT = 4,        /* mask, other mask, scratch, file, size or lent floats too short */
     BEAMNETTLE_LIST_ENDS_EARLY = 5,         /* a word list ends inside a group */
     BEAMNETTLE_COUNT_OUT_OF_RANGE = 6,      /* a count word below 0, or points passing 2,048 in the list */
     BEAMNETTLE_COORDINATE_OUT_OF_RANGE = 7, /* a coordinate word beyond +-1,048,576 */
@@ -56,14 +58,18 @@ enum {
     BEAMNETTLE_CURVE_VERB = 10,             /* a curve verb given to the fitter */
     BEAMNETTLE_TOO_MANY_VERBS = 11,         /* over 256 verbs */
     BEAMNETTLE_TOO_MANY_BOXES = 12,         /* over 256 boxes in a touch list */
+    BEAMNETTLE_NOT_PGM = 13,                /* a PGM mark, number or whitespace at fault, or a width or height of 0 */
+    BEAMNETTLE_WRONG_DEPTH = 14,            /* a PGM depth other than 255 */
+    BEAMNETTLE_WRONG_RASTER = 15,           /* a PGM raster of more bytes than width * height, or of fewer */
     /* done, and: */
     BEAMNETTLE_NONE = 32, /* there is no box, no coverage, or no bounds */
     BEAMNETTLE_YES = 33,
     BEAMNETTLE_NO = 34,
-    BEAMNETTLE_NO_FRAME = 35,    /* beamnettle_touch: no box is touched */
-    BEAMNETTLE_SHARED = 36,      /* beamnettle_rect_fill: a box is written, which the two share */
-    BEAMNETTLE_COVERED = 37,     /* beamnettle_rect_fill: a box is written, around the clip */
-    BEAMNETTLE_FIRST_PLACE = 256 /* beamnettle_touch: the box at place k, counted from 0, is 256 + k */
+    BEAMNETTLE_NO_FRAME = 35,     /* beamnettle_touch: no box is touched */
+    BEAMNETTLE_SHARED = 36,       /* beamnettle_rect_fill: a box is written, which the two share */
+    BEAMNETTLE_COVERED = 37,      /* beamnettle_rect_fill: a box is written, around the clip */
+    BEAMNETTLE_FIRST_PLACE = 256, /* beamnettle_touch: the box at place k, counted from 0, is 256 + k */
+    BEAMNETTLE_FIRST_LENGTH = 256 /* beamnettle_write_pgm: a file of n bytes, which is written, is 256 + n */
 };
 
 /* How many floats there are in a box (frame a b c d x y, half extents, radii), a frame, a coverage
@@ -104,6 +110,24 @@ uint8_t beamnettle_draw(uint8_t *mask, size_t mask_length, size_t width, size_t 
 uint8_t beamnettle_lay(uint8_t *mask, size_t mask_length, size_t width, size_t height, const uint8_t *other,
                        size_t other_length, size_t other_width, size_t other_height, int32_t offset_x,
                        int32_t offset_y);
+
+/* Writes a mask to the first bytes of file as a raw Netpbm PGM: "P5", line feed, width, a blank, height, line
+ * feed, "255", line feed, then the cells, rows first. Later bytes are not changed, nor is the mask. A file takes 11
+ * to 17 bytes more than there are cells.
+ * Returns 256 + the file's length; or 13 for a width or height of 0, then 3, then 4 (the mask, then the file). */
+uint32_t beamnettle_write_pgm(const uint8_t *mask, size_t mask_length, size_t width, size_t height, uint8_t *file,
+                              size_t file_length);
+
+/* Reads a raw Netpbm PGM, which is all that is lent as file: "P5", then width, height and depth, each with one or
+ * more bytes of whitespace (blank, tab, carriage return, line feed) before it, one byte of whitespace, and the
+ * cells. A number has one to nine digits, leading zeros counted. Comments are not taken. Writes width and height
+ * to size and the cells to the first width * height bytes of mask; what lies past them is not changed, nor is the
+ * file.
+ * Returns 0; or 13 where the mark, a number or whitespace is at fault or the width or height is 0, then 14 where
+ * the depth is not 255, then 3, then 15 where there are not just width * height cells, then 4 where the mask is too
+ * short or size has fewer than two numbers. */
+uint8_t beamnettle_read_pgm(const uint8_t *file, size_t file_length, uint8_t *mask, size_t mask_length, size_t *size,
+                            size_t size_length);
 
 /* The box that a straight outline draws. Verbs: 0 move to and 1 line to, with one position each; 2 curve,
  * with three; 3 solid, 4 hole and 5 close, with none. A position is two floats, and positions_length counts

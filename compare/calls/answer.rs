@@ -1,4 +1,6 @@
-//! A list's answers, by femtovg. Of a bad line it says what is wrong, as the program `calls` does.
+//! A list's answers, by femtovg; those about PGM files by the second reader and writer. Of a bad line it
+//! says what is wrong, as the program `calls` does.
+use crate::netpbm;
 use femtovg::calls::{self, Both, Box10, Drawing, Fill};
 use std::str::SplitWhitespace;
 
@@ -29,13 +31,15 @@ const TOO_MANY_BOXES: Bad = "a touch list's line takes at most 257 boxes";
 pub const LARGEST: usize = 2_684_354_559;
 /// The most floats that it reads from a line.
 const MOST_FLOATS: usize = 2573;
+/// The most bytes of a buffer or a file.
+const MOST_BYTES: usize = 65_536;
 
 type Fields<'a> = SplitWhitespace<'a>;
 
 fn number(f: &mut Fields) -> Result<usize, Bad> {
-    let field = f.next().unwrap_or_default();
-    let number = field.parse().ok().filter(|n| *n <= LARGEST);
-    number.ok_or(NOT_A_NUMBER)
+    let field = f.next().filter(|field| !field.starts_with('+'));
+    let number = field.and_then(|field| field.parse().ok());
+    number.filter(|n| *n <= LARGEST).ok_or(NOT_A_NUMBER)
 }
 
 fn word(field: &str) -> Result<i32, Bad> {
@@ -200,14 +204,29 @@ fn on_boxes(name: &str, f: &mut Fields) -> Result<String, Bad> {
     Ok(answer)
 }
 
-fn bytes(text: &str) -> Result<Vec<u8>, Bad> {
-    if text.len() % 2 != 0 {
+/// The bytes of a line's last field.
+fn bytes(f: &mut Fields) -> Result<Vec<u8>, Bad> {
+    let text = match f.next().ok_or(MISSING)? {
+        "-" => "",
+        text => text,
+    };
+    if text.len() % 2 != 0 || !text.bytes().all(|b| b.is_ascii_hexdigit()) {
         return Err(NOT_HEX);
     }
-    (0..text.len())
-        .step_by(2)
-        .map(|at| u8::from_str_radix(&text[at..at + 2], 16).map_err(|_| NOT_HEX))
-        .collect()
+    if text.len() / 2 > MOST_BYTES {
+        return Err(BUFFER_TOO_LONG);
+    }
+    ended(f)?;
+    let byte = |at| u8::from_str_radix(&text[at..at + 2], 16).expect("two digits");
+    Ok((0..text.len()).step_by(2).map(byte).collect())
+}
+
+/// Bytes as `show` writes them.
+fn shown(bytes: &[u8]) -> String {
+    if bytes.is_empty() {
+        return "-".to_string();
+    }
+    bytes.iter().map(|b| format!("{b:02x}")).collect()
 }
 
 /// Which buffer is named.
@@ -222,17 +241,14 @@ fn named_buffer(f: &mut Fields) -> Result<usize, Bad> {
 impl State {
     fn set(&mut self, f: &mut Fields) -> Result<String, Bad> {
         let buffer = &mut self.buffers[named_buffer(f)?];
-        let text = f.next().ok_or(MISSING)?;
-        let held = bytes(if text == "-" { "" } else { text })?;
-        ended(f)?;
-        *buffer = held;
+        *buffer = bytes(f)?;
         Ok(done(Ok(())))
     }
 
     fn fill(&mut self, f: &mut Fields) -> Result<String, Bad> {
         let buffer = &mut self.buffers[named_buffer(f)?];
         let (length, byte) = (number(f)?, number(f)?);
-        if length > 65_536 {
+        if length > MOST_BYTES {
             return Err(BUFFER_TOO_LONG);
         }
         let byte = byte.try_into().map_err(|_| NOT_A_BYTE)?;
@@ -244,10 +260,7 @@ impl State {
     fn show(&mut self, f: &mut Fields) -> Result<String, Bad> {
         let buffer = &mut self.buffers[named_buffer(f)?];
         ended(f)?;
-        if buffer.is_empty() {
-            return Ok("-".to_string());
-        }
-        Ok(buffer.iter().map(|b| format!("{b:02x}")).collect())
+        Ok(shown(buffer))
     }
 
     fn draw(&mut self, f: &mut Fields) -> Result<String, Bad> {
@@ -273,6 +286,27 @@ impl State {
         Ok(done(calls::lay(run, size, next, other_size, offset)))
     }
 
+    /// The file's length, and all that is lent for it: what lies past the file shows too.
+    fn write_pgm(&mut self, f: &mut Fields) -> Result<String, Bad> {
+        let mask = &self.buffers[named_buffer(f)?];
+        let (size, length) = ([number(f)?, number(f)?], number(f)?);
+        if length > MOST_BYTES {
+            return Err(BUFFER_TOO_LONG);
+        }
+        ended(f)?;
+        let mut file = vec![7; length];
+        let answer = netpbm::write(mask, size, &mut file);
+        Ok(answered(answer, |n| format!("file {n} {}", shown(&file))))
+    }
+
+    fn read_pgm(&mut self, f: &mut Fields) -> Result<String, Bad> {
+        let mask = &mut self.buffers[named_buffer(f)?];
+        let (file, mut size) = (bytes(f)?, [0; 2]);
+        let answer = netpbm::read(&file, mask, &mut size);
+        let [width, height] = size;
+        Ok(answered(answer, |()| format!("size {width} {height}")))
+    }
+
     pub fn answer(&mut self, line: &str) -> Result<String, Bad> {
         let mut fields = line.split_whitespace();
         let f = &mut fields;
@@ -282,6 +316,8 @@ impl State {
             "show" => self.show(f),
             "draw" => self.draw(f),
             "lay" => self.lay(f),
+            "write_pgm" => self.write_pgm(f),
+            "read_pgm" => self.read_pgm(f),
             "fit" => fit(f),
             "upright_rect" => upright_rect(f),
             "touch" => touch(f),

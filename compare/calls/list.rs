@@ -3,6 +3,7 @@
 use crate::{
     chains::{chains, layings, offsets},
     holds::holds,
+    pgm::pgms,
     scissors::{bad_scissors, scissors},
     touches::touches,
 };
@@ -632,7 +633,7 @@ pub fn list() -> String {
     let mut list = List::default();
     for part in [
         examples, numbers, improper, masks, layings, offsets, outlines, corners, random, chains,
-        touches, scissors, holds, bad_lines,
+        touches, scissors, holds, bad_lines, pgms,
     ] {
         part(&mut list);
     }

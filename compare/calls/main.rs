@@ -1,9 +1,13 @@
 //! `calls list` writes the fixed list of calls; `calls answer` answers a list from standard input
-//! by femtovg, behind document 01's refusals; `calls count` says how many calls of each kind a list has.
+//! by femtovg, behind document 01's refusals, and of PGM files by a second reader and writer; `calls count`
+//! says how many calls of each kind a list has.
 mod answer;
 mod chains;
 mod holds;
 mod list;
+#[path = "../netpbm/pgm.rs"]
+mod netpbm;
+mod pgm;
 mod scissors;
 mod touches;
 

@@ -152,6 +152,139 @@ static void laying(void) {
     CHECK(memcmp(mask, laid, sizeof mask) == 0);
 }
 
+/* ---- PGM files */
+
+/* A mask of 3 by 2, with one byte behind it, and its file. Before what is lent to be written lie three bytes or
+ * numbers, and at least three behind it. */
+static const uint8_t CELLS[] = {7, 0, 255, 10, 32, 35, 99};
+static const uint8_t PICTURE[] = "P5\n3 2\n255\n\a\0\377\n #";
+enum { CELL_COUNT = 6, PICTURE_LENGTH = 11 + CELL_COUNT, PAST = 3 };
+enum { WRITTEN = BEAMNETTLE_FIRST_LENGTH + PICTURE_LENGTH };
+
+static struct {
+    uint8_t file[PICTURE_LENGTH + 3 * PAST], mask[CELL_COUNT + 3 * PAST];
+    size_t size[2 + 3 * PAST];
+} pgm, pgm_before;
+
+static void lend_pgm(void) {
+    for (size_t i = 0; i < sizeof pgm.file; i++) pgm.file[i] = (uint8_t)(150 + i);
+    for (size_t i = 0; i < sizeof pgm.mask; i++) pgm.mask[i] = (uint8_t)(100 + i);
+    for (size_t i = 0; i < sizeof pgm.size / sizeof *pgm.size; i++) pgm.size[i] = 1000 + i;
+    pgm_before = pgm;
+}
+
+/* Whether the file or the mask holds these bytes, and what it held before and behind them. */
+static int file_holds(const uint8_t *bytes, size_t n) {
+    return memcmp(pgm.file, pgm_before.file, PAST) == 0 && memcmp(pgm.file + PAST, bytes, n) == 0 &&
+           memcmp(pgm.file + PAST + n, pgm_before.file + PAST + n, sizeof pgm.file - PAST - n) == 0;
+}
+
+static int mask_holds(const uint8_t *bytes, size_t n) {
+    return memcmp(pgm.mask, pgm_before.mask, PAST) == 0 && memcmp(pgm.mask + PAST, bytes, n) == 0 &&
+           memcmp(pgm.mask + PAST + n, pgm_before.mask + PAST + n, sizeof pgm.mask - PAST - n) == 0;
+}
+
+/* The same of the size's two numbers. */
+static int size_holds(size_t width, size_t height) {
+    pgm_before.size[PAST] = width;
+    pgm_before.size[PAST + 1] = height;
+    return memcmp(pgm.size, pgm_before.size, sizeof pgm.size) == 0;
+}
+
+/* The number for so many bytes of the mask, a size and so many bytes lent for the file. */
+static uint32_t write_pgm(size_t mask, size_t width, size_t height, size_t file) {
+    lend_pgm();
+    return beamnettle_write_pgm(CELLS, mask, width, height, pgm.file + PAST, file);
+}
+
+/* The number for a file, with so many bytes lent for the mask and numbers for the size. */
+static uint8_t read_pgm(const void *file, size_t length, size_t mask, size_t size) {
+    lend_pgm();
+    return beamnettle_read_pgm(file, length, pgm.mask + PAST, mask, pgm.size + PAST, size);
+}
+
+static void writing_pgm(void) {
+    for (size_t past = 0; past < PAST; past++) {
+        CHECK(write_pgm(CELL_COUNT + past % 2, 3, 2, PICTURE_LENGTH + past) == WRITTEN);
+        CHECK(file_holds(PICTURE, PICTURE_LENGTH));
+    }
+    /* more digits */
+    static uint8_t mask[4096 + 1], file[14 + 4096 + 1];
+    memset(mask, 255, sizeof mask);
+    CHECK(beamnettle_write_pgm(mask, 4096, 4096, 1, file, 14 + 4096) == 256 + 14 + 4096);
+    CHECK(memcmp(file, "P5\n4096 1\n255\n\377", 15) == 0 && file[14 + 4095] == 255 && file[14 + 4096] == 0);
+    CHECK(beamnettle_write_pgm(mask, 10, 1, 10, file, 22) == 256 + 12 + 10);
+    CHECK(memcmp(file, "P5\n1 10\n255\n\377", 13) == 0);
+
+    const struct {
+        size_t mask, width, height, file;
+        uint32_t number;
+    } refused[] = {
+        {6, 0, 4097, 0, BEAMNETTLE_NOT_PGM},
+        {6, SIZE_MAX, 0, 20, BEAMNETTLE_NOT_PGM},
+        {0, 4097, 1, 0, BEAMNETTLE_MASK_TOO_LARGE},
+        {7, 1, 4097, 20, BEAMNETTLE_MASK_TOO_LARGE},
+        {7, (size_t)1 << 32, (size_t)1 << 32, 20, BEAMNETTLE_MASK_TOO_LARGE},
+        {5, 3, 2, 20, BEAMNETTLE_BUFFER_TOO_SHORT},
+        {7, 4096, 4096, 20, BEAMNETTLE_BUFFER_TOO_SHORT},
+        {6, 3, 2, 16, BEAMNETTLE_BUFFER_TOO_SHORT},
+        {6, 3, 2, 11, BEAMNETTLE_BUFFER_TOO_SHORT},
+    };
+    for (size_t i = 0; i < sizeof refused / sizeof *refused; i++) {
+        CHECK(write_pgm(refused[i].mask, refused[i].width, refused[i].height, refused[i].file) == refused[i].number);
+        CHECK(file_holds(PICTURE, 0));
+    }
+}
+
+/* A file as it stands between quotes. */
+#define PGM(text) (text), sizeof(text) - 1
+
+static void reading_pgm(void) {
+    /* what is written, read; and the same with other whitespace and zeros */
+    static const char spelled[] = "P5 \t\r\n000000003\n\n02\r0255 \a\0\377\n #";
+    for (size_t past = 0; past < PAST; past++) {
+        CHECK(write_pgm(CELL_COUNT, 3, 2, PICTURE_LENGTH) == WRITTEN);
+        CHECK(beamnettle_read_pgm(pgm.file + PAST, PICTURE_LENGTH, pgm.mask + PAST, CELL_COUNT + past, pgm.size + PAST,
+                                  2 + past) == BEAMNETTLE_DONE);
+        CHECK(mask_holds(CELLS, CELL_COUNT) && size_holds(3, 2) && file_holds(PICTURE, PICTURE_LENGTH));
+        CHECK(read_pgm(PGM(spelled), CELL_COUNT + past, 2 + past) == BEAMNETTLE_DONE);
+        CHECK(mask_holds(CELLS, CELL_COUNT) && size_holds(3, 2));
+    }
+    CHECK(read_pgm(PGM("P5\n1 1\n255\n\n"), 1, 2) == BEAMNETTLE_DONE);
+    CHECK(mask_holds((const uint8_t *)"\n", 1) && size_holds(1, 1));
+}
+
+static void refusing_pgm(void) {
+    const struct {
+        const char *file;
+        size_t length, mask, size;
+        uint8_t number;
+    } refused[] = {
+        {PGM(""), 6, 2, BEAMNETTLE_NOT_PGM},
+        {PGM("P2\n1 1\n255\n7"), 6, 2, BEAMNETTLE_NOT_PGM},
+        {PGM("P51 1\n255\n\a"), 6, 2, BEAMNETTLE_NOT_PGM},
+        {PGM("P5\n#\n1 1\n255\n\a"), 6, 2, BEAMNETTLE_NOT_PGM},
+        {PGM("P5\n+1 1\n255\n\a"), 6, 2, BEAMNETTLE_NOT_PGM},
+        {PGM("P5\n1\f1\n255\n\a"), 6, 2, BEAMNETTLE_NOT_PGM},
+        {PGM("P5\n0000000001 1\n255\n\a"), 6, 2, BEAMNETTLE_NOT_PGM},
+        {PGM("P5\n1 0\n254\n"), 0, 0, BEAMNETTLE_NOT_PGM},
+        {PGM("P5\n1 1\n254"), 0, 0, BEAMNETTLE_NOT_PGM},
+        {PGM("P5\n4097 1\n254\n"), 0, 0, BEAMNETTLE_WRONG_DEPTH},
+        {PGM("P5\n1 1\n0\n\a"), 6, 2, BEAMNETTLE_WRONG_DEPTH},
+        {PGM("P5\n4097 1\n255\n\a"), 0, 0, BEAMNETTLE_MASK_TOO_LARGE},
+        {PGM("P5\n1 999999999\n255\n\a"), 6, 2, BEAMNETTLE_MASK_TOO_LARGE},
+        {PGM("P5\n2 1\n255\n\a"), 0, 0, BEAMNETTLE_WRONG_RASTER},
+        {PGM("P5\n1 1\n255\r\n\a"), 6, 2, BEAMNETTLE_WRONG_RASTER},
+        {PGM("P5\n2 3\n255\n\a\a\a\a\a\a"), 5, 2, BEAMNETTLE_BUFFER_TOO_SHORT},
+        {PGM("P5\n2 3\n255\n\a\a\a\a\a\a"), 6, 1, BEAMNETTLE_BUFFER_TOO_SHORT},
+        {PGM("P5\n2 3\n255\n\a\a\a\a\a\a"), 6, 0, BEAMNETTLE_BUFFER_TOO_SHORT},
+    };
+    for (size_t i = 0; i < sizeof refused / sizeof *refused; i++) {
+        CHECK(read_pgm(refused[i].file, refused[i].length, refused[i].mask, refused[i].size) == refused[i].number);
+        CHECK(mask_holds(CELLS, 0) && size_holds(1000 + PAST, 1001 + PAST));
+    }
+}
+
 /* ---- boxes */
 
 /* Turned by a quarter and stretched: (px, py) goes to (-4 py + 6, 2 px + 8). */
@@ -501,6 +634,11 @@ static void nothing(void) {
     CHECK(beamnettle_draw(NULL, 0, 0, 0, NULL, 0, NULL, 0, &counter, 1) == BEAMNETTLE_DONE && counter == 0);
     CHECK(beamnettle_draw(NULL, 0, 0, 0, NULL, 0, NULL, 0, NULL, 0) == BEAMNETTLE_BUFFER_TOO_SHORT);
     CHECK(beamnettle_lay(NULL, 0, 0, 7, NULL, 0, 5, 0, 3, 2) == BEAMNETTLE_DONE);
+    CHECK(beamnettle_write_pgm(NULL, 0, 0, 0, NULL, 0) == BEAMNETTLE_NOT_PGM);
+    CHECK(beamnettle_write_pgm(NULL, 0, 1, 1, NULL, 0) == BEAMNETTLE_BUFFER_TOO_SHORT);
+    CHECK(beamnettle_write_pgm(CELLS, 1, 1, 1, NULL, 0) == BEAMNETTLE_BUFFER_TOO_SHORT);
+    CHECK(beamnettle_read_pgm(NULL, 0, NULL, 0, NULL, 0) == BEAMNETTLE_NOT_PGM);
+    CHECK(beamnettle_read_pgm(PICTURE, PICTURE_LENGTH, NULL, 0, NULL, 0) == BEAMNETTLE_BUFFER_TOO_SHORT);
     RETURNS(BEAMNETTLE_NONE, beamnettle_fit(NULL, 0, NULL, 0, out, BOX));
     CHECK(beamnettle_fit(NULL, 0, NULL, 0, NULL, 0) == BEAMNETTLE_BUFFER_TOO_SHORT);
     CHECK(beamnettle_transformed(NULL, 0, NULL, 0, NULL, 0) == BEAMNETTLE_BUFFER_TOO_SHORT);
@@ -524,6 +662,9 @@ static void nothing(void) {
 int main(void) {
     drawing();
     laying();
+    writing_pgm();
+    reading_pgm();
+    refusing_pgm();
     fitting();
     transforming();
     sharing();

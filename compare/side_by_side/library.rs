@@ -10,6 +10,8 @@ pub const SHARED: u8 = 36;
 pub const COVERED: u8 = 37;
 /// The number of place 0 of a touch list.
 pub const FIRST_PLACE: u32 = 256;
+/// What a file's length is added to.
+pub const FIRST_LENGTH: u32 = 256;
 
 mod c {
     #[link(name = "beamnettle", kind = "static")]
@@ -37,6 +39,22 @@ mod c {
             other_height: usize,
             offset_x: i32,
             offset_y: i32,
+        ) -> u8;
+        pub fn beamnettle_write_pgm(
+            mask: *const u8,
+            mask_length: usize,
+            width: usize,
+            height: usize,
+            file: *mut u8,
+            file_length: usize,
+        ) -> u32;
+        pub fn beamnettle_read_pgm(
+            file: *const u8,
+            file_length: usize,
+            mask: *mut u8,
+            mask_length: usize,
+            size: *mut usize,
+            size_length: usize,
         ) -> u8;
         pub fn beamnettle_fit(
             verbs: *const u8,
@@ -210,6 +228,33 @@ pub fn lay(
             other_size[1],
             offset[0],
             offset[1],
+        )
+    }
+}
+
+pub fn write_pgm(mask: &[u8], size: [usize; 2], file: &mut [u8]) -> u32 {
+    let [width, height] = size;
+    unsafe {
+        c::beamnettle_write_pgm(
+            mask.as_ptr(),
+            mask.len(),
+            width,
+            height,
+            file.as_mut_ptr(),
+            file.len(),
+        )
+    }
+}
+
+pub fn read_pgm(file: &[u8], mask: &mut [u8], size: &mut [usize]) -> u8 {
+    unsafe {
+        c::beamnettle_read_pgm(
+            file.as_ptr(),
+            file.len(),
+            mask.as_mut_ptr(),
+            mask.len(),
+            size.as_mut_ptr(),
+            size.len(),
         )
     }
 }

@@ -1,6 +1,7 @@
 //! Puts random and hostile calls to Beamnettle and to femtovg's Rust, and compares every answer:
 //! numbers, masks byte by byte, floats by their bits (every NaN one value), lent memory and guards.
-//! Small chains of drawings and layings-on are also held to document 01's reckoner.
+//! Small chains of drawings and layings-on are also held to document 01's reckoner. PGM files, which
+//! femtovg has not, are held to a second reader and writer.
 //! side_by_side [SEED] [SECONDS]
 mod boxes;
 mod call;
@@ -12,6 +13,10 @@ mod holds;
 mod lending;
 mod lent;
 mod library;
+#[path = "../netpbm/pgm.rs"]
+mod netpbm;
+mod pgm;
+mod pgm_files;
 mod random;
 mod reckoner;
 mod scissors;
@@ -27,7 +32,7 @@ use std::{
     time::{Duration, Instant},
 };
 
-/// The numbers that are shown beside done, as which a place counts, and the table's causes.
+/// The numbers that are shown beside done, as which a place or a length counts, and the causes.
 const OUTCOMES: [(u8, &str); 6] = [
     (library::NONE, "none"),
     (library::YES, "yes"),
@@ -37,6 +42,9 @@ const OUTCOMES: [(u8, &str); 6] = [
     (library::COVERED, "covered"),
 ];
 
+/// A run ends when so many are found.
+const MOST_DIFFERENCES: u64 = 10;
+
 /// Everything that is counted.
 #[derive(Default)]
 struct Counts {
@@ -45,6 +53,7 @@ struct Counts {
     differ: u64,
     chains: u64,
     touches: touches::Counts,
+    files: pgm::Counts,
     closeness: Closeness,
 }
 
@@ -66,7 +75,7 @@ impl Counts {
     }
 
     fn show(&self) {
-        let causes = (1..=12).map(|number| (number, number.to_string()));
+        let causes = (1..=15).map(|number| (number, number.to_string()));
         let columns: Vec<(u8, String)> = std::iter::once((library::DONE, "done".into()))
             .chain(causes)
             .chain(OUTCOMES.map(|(number, name)| (number, name.into())))
@@ -90,6 +99,7 @@ impl Counts {
         } = self.closeness;
         println!("chains: {}", self.chains);
         self.touches.show();
+        self.files.show();
         println!(
             "largest share of the allowed difference: {largest:.4} (done drawings {drawings}, layings {layings}, cells {cells})"
         );
@@ -123,6 +133,25 @@ fn put_box_call(random: &mut Random, counts: &mut Counts) {
     }
 }
 
+fn put_pgm_call(call: pgm::Call, random: &mut Random, counts: &mut Counts) {
+    match call.compare(random) {
+        Ok(number) => {
+            counts.files.count(&call, number);
+            counts.answer(call.kind(), number);
+        }
+        Err(difference) => counts.difference(&difference, &call),
+    }
+}
+
+/// The calls that every run has: each byte of small PGM headers at every value, each width and height.
+fn put_sweep(random: &mut Random, counts: &mut Counts) {
+    for call in pgm_files::headers().chain(pgm_files::sizes()) {
+        if counts.differ < MOST_DIFFERENCES {
+            put_pgm_call(call, random, counts);
+        }
+    }
+}
+
 fn put_chain(chain: Chain, drawing: &mut Drawing, random: &mut Random, counts: &mut Counts) {
     match chain::compare(&chain, drawing, random, &mut counts.closeness) {
         Ok(numbers) => {
@@ -136,7 +165,7 @@ fn put_chain(chain: Chain, drawing: &mut Drawing, random: &mut Random, counts: &
     }
 }
 
-/// A call on boxes, a lone drawing or a chain.
+/// A call on boxes, one on a PGM file, a lone drawing or a chain.
 fn put(drawing: &mut Drawing, random: &mut Random, counts: &mut Counts) {
     let chain = match random.below(800) {
         turn @ 0..=15 => {
@@ -144,6 +173,7 @@ fn put(drawing: &mut Drawing, random: &mut Random, counts: &mut Counts) {
             chains::chain(random, turn < 8)
         }
         16..=99 => drawings::drawing(random),
+        100..=199 => return put_pgm_call(pgm_files::call(random), random, counts),
         _ => return put_box_call(random, counts),
     };
     put_chain(chain, drawing, random, counts);
@@ -159,7 +189,8 @@ fn main() {
     let mut counts = Counts::default();
     let start = Instant::now();
     let mut shown = start;
-    while start.elapsed() < limit && counts.differ < 10 {
+    put_sweep(&mut random, &mut counts);
+    while start.elapsed() < limit && counts.differ < MOST_DIFFERENCES {
         put(&mut drawing, &mut random, &mut counts);
         if shown.elapsed() > Duration::from_secs(5) {
             shown = Instant::now();

@@ -1,7 +1,10 @@
-//! Times Beamnettle beside femtovg's Rust, in one process, in turns. Prints medians as a table.
+//! Times Beamnettle beside femtovg's Rust, in one process, in turns. Prints medians as a table. PGM files,
+//! which femtovg has not, stand beside the reader and writer that they are compared with.
 #[path = "../side_by_side/library.rs"]
 #[allow(dead_code)]
 mod library;
+#[path = "../netpbm/pgm.rs"]
+mod netpbm;
 
 use femtovg::{
     calls::{self, Box10},
@@ -247,6 +250,57 @@ fn layings() {
     lay("lay, 16 x 16", 16, &own, &other, [0, 0]);
 }
 
+// ---- PGM files
+
+// femtovg has no such calls: what stands for the old ones is the comparison's own.
+
+fn write_pgm(size: [usize; 2], mask: &[u8]) -> Vec<u8> {
+    let length = netpbm::header(size).len() + mask.len();
+    let (mut old, mut new) = (vec![0; length], vec![0; length]);
+    assert_eq!(netpbm::write(mask, size, &mut old), Ok(length));
+    assert_eq!(
+        library::write_pgm(mask, size, &mut new),
+        library::FIRST_LENGTH + length as u32
+    );
+    assert!(old == new, "files differ");
+    line(
+        "write_pgm, 512 x 512 (old: not femtovg's)",
+        &mut || {
+            let _ = black_box(netpbm::write(black_box(mask), size, &mut old));
+        },
+        &mut || {
+            black_box(library::write_pgm(black_box(mask), size, &mut new));
+        },
+    );
+    new
+}
+
+fn read_pgm(file: &[u8], mask: &[u8]) {
+    let (mut old, mut new) = (vec![0; mask.len()], vec![0; mask.len()]);
+    assert_eq!(netpbm::read(file, &mut old, &mut [0; 2]), Ok(()));
+    assert_eq!(
+        library::read_pgm(file, &mut new, &mut [0; 2]),
+        library::DONE
+    );
+    assert!(old == mask && new == mask, "masks differ");
+    line(
+        "read_pgm, 512 x 512 (old: not femtovg's)",
+        &mut || {
+            let _ = black_box(netpbm::read(black_box(file), &mut old, &mut [0; 2]));
+        },
+        &mut || {
+            black_box(library::read_pgm(black_box(file), &mut new, &mut [0; 2]));
+        },
+    );
+}
+
+fn files() {
+    let size = [512; 2];
+    let mask = drawn(size, &[vec![star([256.0; 2], [250.0, 150.0], 24)]]);
+    let file = write_pgm(size, &mask);
+    read_pgm(&file, &mask);
+}
+
 // ---- boxes
 
 fn boxes() {
@@ -447,6 +501,7 @@ fn main() {
     println!("| call | old | new | new / old |\n|---|---|---|---|");
     drawings();
     layings();
+    files();
     boxes();
     scissors();
     upright_rect();

@@ -1,4 +1,5 @@
 // The engine's answers, written one a line.
+use cells::Size;
 use clip_coverage::ClipCoverage;
 use clip_coverage::DistanceAnswer;
 use covering::CoverageAnswer;
@@ -9,6 +10,8 @@ use fill::RectFill;
 use geometry::Bounds;
 use libc::STDOUT_FILENO;
 use mask::Outcome;
+use pgm::ReadAnswer;
+use pgm::WriteAnswer;
 use scissor::ScissorAnswer;
 use shape::BoundsAnswer;
 use shape::BoxAnswer;
@@ -26,6 +29,39 @@ pub fn outcome(answer: Outcome) {
     match answer {
         Outcome::Done => writing::write(b"done\n"),
         Outcome::Refused(fault) => refused(fault),
+    }
+}
+
+// ---- files
+
+// A file's length, and the whole of what was lent for it.
+fn file_line(length: usize, file: &[u8]) {
+    writing::write(b"file ");
+    io::print_decimal(STDOUT_FILENO, length as u64);
+    writing::write(b" ");
+    writing::hex(file);
+    writing::write(b"\n");
+}
+
+pub fn written(answer: WriteAnswer, file: &[u8]) {
+    match answer {
+        WriteAnswer::Written(length) => file_line(length, file),
+        WriteAnswer::Refused(fault) => refused(fault),
+    }
+}
+
+fn size_line(size: Size) {
+    writing::write(b"size ");
+    io::print_decimal(STDOUT_FILENO, size.width as u64);
+    writing::write(b" ");
+    io::print_decimal(STDOUT_FILENO, size.height as u64);
+    writing::write(b"\n");
+}
+
+pub fn read(answer: ReadAnswer) {
+    match answer {
+        ReadAnswer::Read(size) => size_line(size),
+        ReadAnswer::Refused(fault) => refused(fault),
     }
 }
 

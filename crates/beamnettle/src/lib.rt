@@ -1,4 +1,4 @@
-// The kiosk's C library: document 01's calls over numbers and lent slices. include/beamnettle.h says
+// The kiosk's C library: the documents' calls over numbers and lent slices. include/beamnettle.h says
 // what each does in words; each contract gives its number and all that is lent afterwards outright.
 use cells::Size;
 use laying::Offset;
@@ -8,7 +8,9 @@ ghost use lib.ListN.{length};
 ghost use Rattle.mask.specs.Calls.{lent, outcomeNumber, drawAnswer, layAnswer};
 ghost use Rattle.touch.specs.Touch.{pointOf, touchCall};
 ghost use Rattle.boundary.specs.Answers.{after, boxHanded, coverageHanded, boundsHanded, distanceHanded, testNumber, touchNumber};
-ghost use Rattle.boundary.specs.Answers.{bothBoxHanded, bothCoverageHanded, fillHanded};
+ghost use Rattle.boundary.specs.Answers.{bothBoxHanded, bothCoverageHanded, fillHanded, writeNumber, readNumber, sizeAfter};
+ghost use Rattle.pgm.specs.Calls.{maskAfterReading};
+ghost use Rattle.pgm_exports.specs.Calls.{writeLent, fileWritten, readLent};
 ghost use Rattle.box_exports.specs.Calls.{fitLent, transformedLent, intersectionLent, rectIntersectionLent, coverageLent};
 ghost use Rattle.box_exports.specs.Calls.{boundsLent, distanceLent, parallelLent, containsLent};
 ghost use Rattle.window_exports.specs.Calls.{withScissorLent, trimmedScissorLent, rectFillLent, uprightRectLent, reachLent, holdsLent};
@@ -60,6 +62,30 @@ pub extern "C" fn beamnettle_lay(
         y: offset_y,
     };
     boundary::outcome_number(mask::intersect(mask, own_size, other, other_size, offset))
+}
+
+// ---- masks as files: crate pgm_exports has the calls
+
+#[no_mangle]
+pub extern "C" fn beamnettle_write_pgm(
+    mask: &[u8],
+    width: usize,
+    height: usize,
+    file: &mut [u8],
+) -> u32
+    ensures number { λ r. ⌜ r ≡ writeNumber (writeLent width height (now (mask .entry)) (now (file .entry))) ⌝ }
+    ensures file { λ _. ⌜ now (file .exit) ≡ fileWritten width height (now (mask .entry)) (now (file .entry)) ⌝ }
+{
+    pgm_exports::write_pgm(mask, width, height, file)
+}
+
+#[no_mangle]
+pub extern "C" fn beamnettle_read_pgm(file: &[u8], mask: &mut [u8], size: &mut [usize]) -> u8
+    ensures number { λ r. ⌜ r ≡ readNumber (readLent (now (file .entry)) (now (mask .entry)) (length (now (size .entry)))) ⌝ }
+    ensures cells { λ _. ⌜ now (mask .exit) ≡ maskAfterReading (readLent (now (file .entry)) (now (mask .entry)) (length (now (size .entry)))) (now (file .entry)) (now (mask .entry)) ⌝ }
+    ensures size { λ _. ⌜ now (size .exit) ≡ sizeAfter (readLent (now (file .entry)) (now (mask .entry)) (length (now (size .entry)))) (now (size .entry)) ⌝ }
+{
+    pgm_exports::read_pgm(file, mask, size)
 }
 
 // ---- boxes: crate box_exports has the calls

@@ -30,8 +30,12 @@ use Rattle.fill.specs.declared.FillAnswer.{FillAnswer}
 use Rattle.fill.specs.declared.FillAnswer.the-variants as filled
 use Rattle.touch.specs.declared.TouchAnswer.{TouchAnswer}
 use Rattle.touch.specs.declared.TouchAnswer.the-variants as touched
-use Rattle.boundary.specs.Outcomes.{Ordinary, done, none, yes, no, noFrame, shared, covered, place, ordinaryNumber}
-use Rattle.boundary.specs.Answers.{boxHanded, coverageHanded, boundsHanded, distanceHanded, bothBoxHanded, fillHanded, reachHanded, testNumber, touchNumber}
+use Rattle.pgm.specs.declared.WriteAnswer.{WriteAnswer}
+use Rattle.pgm.specs.declared.WriteAnswer.the-variants as write
+use Rattle.pgm.specs.declared.ReadAnswer.{ReadAnswer}
+use Rattle.pgm.specs.declared.ReadAnswer.the-variants as read
+use Rattle.boundary.specs.Outcomes.{Ordinary, done, none, yes, no, noFrame, shared, covered, counted, ordinaryNumber}
+use Rattle.boundary.specs.Answers.{boxHanded, coverageHanded, boundsHanded, distanceHanded, bothBoxHanded, fillHanded, reachHanded, testNumber, touchNumber, writeNumber, readNumber}
 use Rattle.boundary.specs.Numbers.{CauseExactlyWhen, NumbersApart}
 
 -- ---- outcomes
@@ -44,14 +48,14 @@ outside no low high = omega arith
 outside noFrame low high = omega arith
 outside shared low high = omega arith
 outside covered low high = omega arith
-outside (place k) low high = omega arith
+outside (counted k) low high = omega arith
 
 apart : (o : Ordinary) (f : Fault) → ordinaryNumber o ≡ numberOf f → ⊥
 apart o f e = let least = cause-numbers .least f in let most = cause-numbers .most f in outside o (omega arith) (omega arith)
 
--- those below the places, by number; then the places
+-- those below what is counted, by number; then what is counted
 abbrev outcome-at : ℕ → Ordinary
-outcome-at n = getD (done ∷ []) n (getD (none ∷ yes ∷ no ∷ noFrame ∷ shared ∷ covered ∷ []) (n - 32) (place (n - 256)))
+outcome-at n = getD (done ∷ []) n (getD (none ∷ yes ∷ no ∷ noFrame ∷ shared ∷ covered ∷ []) (n - 32) (counted (n - 256)))
 
 own-outcome : (o : Ordinary) → outcome-at (ordinaryNumber o) ≡ o
 own-outcome done = refl
@@ -61,12 +65,12 @@ own-outcome no = refl
 own-outcome noFrame = refl
 own-outcome shared = refl
 own-outcome covered = refl
-own-outcome (place k) =
+own-outcome (counted k) =
     let past-first : 1 ≤ 256 + k = omega arith in
     let past-all : 6 ≤ 256 + k - 32 = omega arith in
     List·getD-eq-default (done ∷ []) _ past-first
     ∙ List·getD-eq-default (none ∷ yes ∷ no ∷ noFrame ∷ shared ∷ covered ∷ []) _ past-all
-    ∙ ap place (omega arith)
+    ∙ ap counted (omega arith)
 
 outcomes : (o p : Ordinary) → ordinaryNumber o ≡ ordinaryNumber p → o ≡ p
 outcomes o p e = sym (own-outcome o) ∙ ap outcome-at e ∙ own-outcome p
@@ -129,9 +133,17 @@ test-within (test.Done false) low high = absurd (outside no low high)
 test-within (test.Refused f) low high = (f, refl)
 
 touch-within : (a : TouchAnswer) → 1 ≤ touchNumber a → touchNumber a ≤ 31 → (f : Fault) × (a ≡ touched.Refused f)
-touch-within (touched.Frame k) low high = absurd (outside (place k) low high)
+touch-within (touched.Frame k) low high = absurd (outside (counted k) low high)
 touch-within touched.NoFrame low high = absurd (outside noFrame low high)
 touch-within (touched.Refused f) low high = (f, refl)
+
+write-within : (a : WriteAnswer) → 1 ≤ writeNumber a → writeNumber a ≤ 31 → (f : Fault) × (a ≡ write.Refused f)
+write-within (write.Written n) low high = absurd (outside (counted n) low high)
+write-within (write.Refused f) low high = (f, refl)
+
+read-within : (a : ReadAnswer) → 1 ≤ readNumber a → readNumber a ≤ 31 → (f : Fault) × (a ≡ read.Refused f)
+read-within (read.Read size) low high = absurd (outside done low high)
+read-within (read.Refused f) low high = (f, refl)
 
 pub numbers-apart : NumbersApart
 numbers-apart = record {
@@ -148,4 +160,6 @@ numbers-apart = record {
   reach = never-refused;
   test = told testNumber test.Refused (λ f. refl) test-within;
   touch = told touchNumber touched.Refused (λ f. refl) touch-within;
+  write = told writeNumber write.Refused (λ f. refl) write-within;
+  read = told readNumber read.Refused (λ f. refl) read-within;
 }

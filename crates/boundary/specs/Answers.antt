@@ -4,6 +4,7 @@
 use Prim.Native.Nat.{ℕ}
 use mathlib.Core.Bool.{cond}
 use mathlib.Core.List.{List, [], _∷_}
+use lib.ListN.{drop}
 use lib.Ieee.{Float}
 use Rattle.fault.specs.declared.Fault.{Fault}
 use Rattle.fault.specs.Number.{numberOf}
@@ -27,8 +28,12 @@ use Rattle.fill.specs.declared.RectFill.{RectFill}
 use Rattle.fill.specs.declared.RectFill.the-variants as fill
 use Rattle.fill.specs.declared.FillAnswer.{FillAnswer}
 use Rattle.fill.specs.declared.FillAnswer.the-variants as filled
+use Rattle.pgm.specs.declared.WriteAnswer.{WriteAnswer}
+use Rattle.pgm.specs.declared.WriteAnswer.the-variants as write
+use Rattle.pgm.specs.declared.ReadAnswer.{ReadAnswer}
+use Rattle.pgm.specs.declared.ReadAnswer.the-variants as read
 use Rattle.lent_floats.specs.Lent.{boxFloats, coverageFloats, boundsFloats, over}
-use Rattle.boundary.specs.Outcomes.{Ordinary, ordinaryNumber, done, none, yes, no, noFrame, shared, covered, place}
+use Rattle.boundary.specs.Outcomes.{Ordinary, ordinaryNumber, done, none, yes, no, noFrame, shared, covered, counted}
 
 pub record Handed : Type 0 where
   pub number : ℕ
@@ -107,6 +112,22 @@ testNumber (test.Refused f) = numberOf f
 
 -- the place 'as a byte counted from 0', or "no frame"
 abbrev pub touchNumber : TouchAnswer → ℕ
-touchNumber (touched.Frame k) = ordinaryNumber (place k)
+touchNumber (touched.Frame k) = ordinaryNumber (counted k)
 touchNumber touched.NoFrame = ordinaryNumber noFrame
 touchNumber (touched.Refused f) = numberOf f
+
+-- ---- files (document 02, change 4)
+
+-- 'The writer returns the file's length'
+abbrev pub writeNumber : WriteAnswer → ℕ
+writeNumber (write.Written n) = ordinaryNumber (counted n)
+writeNumber (write.Refused f) = numberOf f
+
+abbrev pub readNumber : ReadAnswer → ℕ
+readNumber (read.Read size) = ordinaryNumber done
+readNumber (read.Refused f) = numberOf f
+
+-- what is lent for the size of a mask that is read, afterwards: its width, its height, and what was past them
+abbrev pub sizeAfter : ReadAnswer → List ℕ → List ℕ
+sizeAfter (read.Read size) lent = size .width ∷ size .height ∷ drop 2 lent
+sizeAfter (read.Refused f) lent = lent

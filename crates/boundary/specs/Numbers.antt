@@ -15,8 +15,10 @@ use Rattle.touch.specs.declared.TouchAnswer.the-variants as touched
 use Rattle.device_bounds.specs.declared.MaybeBounds.{MaybeBounds}
 use Rattle.scissor.specs.declared.ScissorAnswer.the-variants as scissor
 use Rattle.fill.specs.declared.FillAnswer.the-variants as filled
+use Rattle.pgm.specs.declared.WriteAnswer.the-variants as write
+use Rattle.pgm.specs.declared.ReadAnswer.the-variants as read
 use Rattle.boundary.specs.Outcomes.{Ordinary, ordinaryNumber}
-use Rattle.boundary.specs.Answers.{boxHanded, coverageHanded, boundsHanded, distanceHanded, bothBoxHanded, fillHanded, reachHanded, testNumber, touchNumber}
+use Rattle.boundary.specs.Answers.{boxHanded, coverageHanded, boundsHanded, distanceHanded, bothBoxHanded, fillHanded, reachHanded, testNumber, touchNumber, writeNumber, readNumber}
 
 -- of answers, a way to number them, and those that refuse: a number is a cause's exactly when the answer is the refusal
 -- with that cause; from 1 to 31 there is nothing else
@@ -43,3 +45,5 @@ pub record NumbersApart : Type 0 where
   pub reach : (a : MaybeBounds) (f : Fault) → (reachHanded a) .number ≡ numberOf f → ⊥
   pub test : CauseExactlyWhen testNumber test.Refused
   pub touch : CauseExactlyWhen touchNumber touched.Refused
+  pub write : CauseExactlyWhen writeNumber write.Refused
+  pub read : CauseExactlyWhen readNumber read.Refused

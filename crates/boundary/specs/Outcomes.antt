@@ -3,10 +3,10 @@
 use Prim.Native.Nat.{ℕ, _+_}
 
 -- done, with nothing more to say; none: "no box", no coverage, or no bounds; yes and no; "no frame"; `RectFill`'s two,
--- 'a shared box or a covered one'; the place of a touch, from 0
+-- 'a shared box or a covered one'; what is counted: the place of a touch, from 0, or the length of a file
 pub data Ordinary : Type 0 where
   done none yes no noFrame shared covered : Ordinary
-  place : ℕ → Ordinary
+  counted : ℕ → Ordinary
 
 abbrev pub ordinaryNumber : Ordinary → ℕ
 ordinaryNumber done = 0
@@ -16,4 +16,4 @@ ordinaryNumber no = 34
 ordinaryNumber noFrame = 35
 ordinaryNumber shared = 36
 ordinaryNumber covered = 37
-ordinaryNumber (place k) = 256 + k
+ordinaryNumber (counted k) = 256 + k

@@ -6,6 +6,8 @@ use device_bounds::MaybeBounds;
 use fill::FillAnswer;
 use fill::RectFill;
 use mask::Outcome;
+use pgm::ReadAnswer;
+use pgm::WriteAnswer;
 use scissor::ScissorAnswer;
 use shape::BoundsAnswer;
 use shape::BoxAnswer;
@@ -17,6 +19,7 @@ ghost use lib.ListN.{length};
 ghost use Rattle.mask.specs.Calls.{outcomeNumber};
 ghost use Rattle.boundary.specs.Answers.{after, boxHanded, coverageHanded, boundsHanded, distanceHanded};
 ghost use Rattle.boundary.specs.Answers.{bothBoxHanded, bothCoverageHanded, rectFillHanded, fillHanded, reachHanded, testNumber, touchNumber};
+ghost use Rattle.boundary.specs.Answers.{writeNumber, readNumber, sizeAfter};
 
 const DONE: u8 = 0;
 
@@ -32,8 +35,8 @@ const SHARED: u8 = 36;
 
 const COVERED: u8 = 37;
 
-// A place is answered above all other numbers.
-const FIRST_PLACE: u32 = 256;
+// What is counted, a place or a length, is answered above all other numbers.
+const FIRST_COUNTED: u32 = 256;
 
 // ---- answers, handed over
 
@@ -185,8 +188,35 @@ pub fn touch_number(answer: TouchAnswer) -> u32
     ensures { λ r. ⌜ r ≡ touchNumber answer ⌝ }
 {
     match answer {
-        TouchAnswer::Frame(k) => FIRST_PLACE + k as u32,
+        TouchAnswer::Frame(k) => FIRST_COUNTED + k as u32,
         TouchAnswer::NoFrame => NO_FRAME,
         TouchAnswer::Refused(fault) => fault.number() as u32,
+    }
+}
+
+// ---- files
+
+pub fn write_number(answer: WriteAnswer) -> u32
+    requires { ⌜ writeNumber answer ≤ 4294967295 ⌝ }
+    ensures { λ r. ⌜ r ≡ writeNumber answer ⌝ }
+{
+    match answer {
+        WriteAnswer::Written(length) => FIRST_COUNTED + length as u32,
+        WriteAnswer::Refused(fault) => fault.number() as u32,
+    }
+}
+
+pub fn hand_size(answer: ReadAnswer, size: &mut [usize]) -> u8
+    requires { ⌜ 2 ≤ length (now size) ⌝ }
+    ensures { λ r. ⌜ r ≡ readNumber answer ⌝ }
+    ensures { λ _. ⌜ now (size .exit) ≡ sizeAfter answer (now (size .entry)) ⌝ }
+{
+    match answer {
+        ReadAnswer::Read(read) => {
+            size[0] = read.width;
+            size[1] = read.height;
+            DONE
+        }
+        ReadAnswer::Refused(fault) => fault.number(),
     }
 }

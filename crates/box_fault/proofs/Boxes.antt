@@ -25,7 +25,7 @@ use Rattle.touch.specs.Touch.{touchCheckOf}
 use Rattle.outline.specs.Outline.{allInRangeOf}
 use Rattle.box_fault.specs.Causes.{InRange, frameNumbers, boxNumbers, ImproperSide, ProperSide, BoxFault, number, improper, Faultless, PairFault, of-first, of-second, of-fringe}
 use Rattle.box_fault.specs.Causes.{FirstAtFault, All, touchNumbers, TouchFault, too-many-boxes, of-box, of-touch}
-use Rattle.box_fault.proofs.Decided.{Decided}
+use Rattle.fault.proofs.Decided.{Decided}
 use Rattle.box_fault.proofs.Lists.{EachChecked, all-pass, first-refuses, all-decided}
 
 -- ---- numbers: a check's nested tests are one test of a list

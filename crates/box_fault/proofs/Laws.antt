@@ -24,7 +24,7 @@ use Rattle.upright_rect.specs.UprightRect.{uprightRectOf}
 use Rattle.touch.specs.declared.TouchAnswer.the-variants as touched
 use Rattle.touch.proofs.Laws.{never-refused}
 use Rattle.box_fault.specs.Laws.{RefusedExactlyWhen, NoBoxPastEight}
-use Rattle.box_fault.proofs.Decided.{told}
+use Rattle.fault.proofs.Decided.{told}
 use Rattle.box_fault.proofs.Boxes.{pair-refused, pair-passes, pair-decided, touch-refused, touch-passes, touch-decided}
 use Rattle.box_fault.proofs.Outlines.{framed-refused, framed-passes, framed-decided}
 

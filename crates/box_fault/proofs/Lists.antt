@@ -8,7 +8,7 @@ use Rattle.fault.specs.declared.Check.{Check}
 use Rattle.fault.specs.declared.Check.the-variants as check
 use Rattle.fault.specs.Check.{_andThen_}
 use Rattle.box_fault.specs.Causes.{FirstAtFault, here, later, All}
-use Rattle.box_fault.proofs.Decided.{Decided}
+use Rattle.fault.proofs.Decided.{Decided}
 
 pub record EachChecked {A : Type 0} (Good : A → Type 0) (AtFault : A → Fault → Type 0) (checkOf : A → Check) (checksOf : List A → Check) : Type 0 where
   pub none : checksOf [] ≡ check.Pass

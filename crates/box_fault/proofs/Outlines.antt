@@ -18,7 +18,7 @@ use Rattle.outline.specs.Outline.{verbCheckOf, verbsCheckOf, floatsNeededOf, al
 use Rattle.upright_rect.specs.Calls.{outlineFrameCheckOf}
 use Rattle.box_fault.specs.Causes.{InRange, frameNumbers, FirstAtFault, All, VerbFault, unknown, curve, Straight}
 use Rattle.box_fault.specs.Causes.{OutlineFault, too-many, of-verb, mismatch, of-position, FaultlessOutline, OutlineFrameFault, of-outline, of-frame}
-use Rattle.box_fault.proofs.Decided.{Decided}
+use Rattle.fault.proofs.Decided.{Decided}
 use Rattle.box_fault.proofs.Lists.{EachChecked, all-pass, first-refuses, all-decided}
 use Rattle.box_fault.proofs.Boxes.{frame-numbers}
 

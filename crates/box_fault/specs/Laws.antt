@@ -5,7 +5,7 @@ use mathlib.Core.List.{List}
 use Prim.Native.Nat.{ℕ, _<_}
 use lib.Ieee.{Float}
 use lib.ListN.{length}
-use Rattle.fault.specs.declared.Fault.{Fault}
+use Rattle.fault.specs.Check.{ForItsFirstCause}
 use Rattle.geometry.specs.declared.Position.{Position}
 use Rattle.geometry.specs.declared.Transform2D.{Transform2D}
 use Rattle.shape.specs.declared.RoundedBox.{RoundedBox}
@@ -18,11 +18,6 @@ use Rattle.upright_rect.specs.Calls.{uprightRectCall}
 use Rattle.touch.specs.declared.TouchAnswer.the-variants as touched
 use Rattle.touch.specs.Touch.{touchCall}
 use Rattle.box_fault.specs.Causes.{InRange, frameNumbers, PairFault, TouchFault, FaultlessOutline, OutlineFrameFault}
-
--- an answer is the refusal with a fault exactly when that is its first cause
-pub record ForItsFirstCause {A : Type 0} (refused : Fault → A) (answer : A) (Cause : Fault → Type 0) : Type 0 where
-  pub only : (f : Fault) → answer ≡ refused f → Cause f
-  pub always : (f : Fault) → Cause f → answer ≡ refused f
 
 pub record RefusedExactlyWhen : Type 0 where
   pub with-scissor : (clip s : RoundedBox) (fringe : Float)

@@ -2,7 +2,6 @@
 use fields::Field;
 use fields::MOST_LINE;
 use fields::Problem;
-use libc::STDOUT_FILENO;
 
 pub const MOST_BYTES: usize = 65536;
 
@@ -56,21 +55,28 @@ fn hex_problem(line: &[u8; MOST_LINE], f: Field) -> Problem {
     fields::at_end(line, end)
 }
 
+// The bytes of a line's last field, put into a buffer: how many, or what is wrong.
+pub fn read_bytes(line: &[u8; MOST_LINE], at: usize, bytes: &mut [u8; MOST_BYTES]) -> AfterCall {
+    let f = fields::next(line, at);
+    if fields::is(line, f, b"-") {
+        return left(0, fields::at_end(line, f.end));
+    }
+    match hex_problem(line, f) {
+        Problem::Nothing => left(store_hex(line, f, bytes), Problem::Nothing),
+        problem => left(0, problem),
+    }
+}
+
 pub fn buf(
     line: &[u8; MOST_LINE],
     at: usize,
     buffer: &mut [u8; MOST_BYTES],
     length: usize,
 ) -> AfterCall {
-    let f = fields::next(line, at);
-    if fields::is(line, f, b"-") {
-        let Problem::Nothing = fields::at_end(line, f.end) else {
-            return left(length, Problem::FieldTooMany);
-        };
-        return set(0);
-    }
-    match hex_problem(line, f) {
-        Problem::Nothing => set(store_hex(line, f, buffer)),
+    let read = read_bytes(line, at, buffer);
+    let problem = read.problem;
+    match problem {
+        Problem::Nothing => set(read.length),
         problem => left(length, problem),
     }
 }
@@ -112,14 +118,9 @@ pub fn bufn(
     set(n)
 }
 
-fn show_bytes(buffer: &[u8; MOST_BYTES], length: usize) {
-    let mut i = 0;
-    while i < MOST_BYTES {
-        if length <= i {
-            return;
-        }
-        io::print_hex(STDOUT_FILENO, fields::wide(buffer[i]), 2);
-        i += 1;
+fn show_bytes(buffer: &[u8], length: usize) {
+    if length <= buffer.len() {
+        writing::hex(&buffer[0..length]);
     }
 }
 

@@ -1,3 +1,5 @@
--- Cells: a mask's size and its cells. Rows: a mask as rows, one after another.
+-- Cells: a mask's size and its cells. Rows: a mask as rows, one after another. Over: lent bytes with others written over
+-- them.
 pub mod Cells
 pub mod Rows
+pub mod Over

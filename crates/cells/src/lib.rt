@@ -1,8 +1,10 @@
-// A mask's cells: its size, and lent buffers cleared.
+// A mask's cells: its size, and lent buffers cleared and written.
 ghost use mathlib.Core.Path.{_≡_};
+ghost use Prim.Native.Nat.{_+_, _≤_};
 ghost use lib.ListN.{length, replicate};
 ghost use Rattle.float.specs.Ops.{f0};
 ghost use Rattle.cells.specs.Cells.{tooLarge};
+ghost use Rattle.cells.specs.Over.{over};
 
 // A mask's size in cells. Its bytes are lent beside it, one a cell, rows first.
 pub struct Size {
@@ -51,4 +53,20 @@ pub fn clear_counters(counters: &mut [u64])
         counters[i] = 0;
         i += 1;
     }
+}
+
+// ---- a lent buffer, written
+
+// Writes bytes from a place on. Returns the place behind them.
+pub fn put_bytes(to: &mut [u8], at: usize, bytes: &[u8]) -> usize
+    requires { ⌜ at + length (now bytes) ≤ length (now to) ⌝ }
+    ensures { λ r. ⌜ r ≡ at + length (now (bytes .entry)) ⌝ }
+    ensures { λ _. ⌜ now (to .exit) ≡ over (now (bytes .entry)) at (now (to .entry)) ⌝ }
+{
+    let mut i = 0;
+    while i < bytes.len() {
+        to[at + i] = bytes[i];
+        i += 1;
+    }
+    at + i
 }

@@ -18,6 +18,9 @@ use Rattle.fault.specs.declared.Fault.the-variants.{
   CurveVerb,
   TooManyVerbs,
   TooManyBoxes,
+  NotPgm,
+  WrongDepth,
+  WrongRaster,
 }
 use Rattle.fault.specs.Number.{numberOf, CauseNumbers}
 
@@ -37,6 +40,9 @@ causeAt n = getD (
     ∷ CurveVerb
     ∷ TooManyVerbs
     ∷ TooManyBoxes
+    ∷ NotPgm
+    ∷ WrongDepth
+    ∷ WrongRaster
     ∷ []
     ) n NumberOutOfRange
 
@@ -58,6 +64,9 @@ tabled PositionsMismatch = record { back = refl; least = omega arith; most = ome
 tabled CurveVerb = record { back = refl; least = omega arith; most = omega arith }
 tabled TooManyVerbs = record { back = refl; least = omega arith; most = omega arith }
 tabled TooManyBoxes = record { back = refl; least = omega arith; most = omega arith }
+tabled NotPgm = record { back = refl; least = omega arith; most = omega arith }
+tabled WrongDepth = record { back = refl; least = omega arith; most = omega arith }
+tabled WrongRaster = record { back = refl; least = omega arith; most = omega arith }
 
 pub cause-numbers : CauseNumbers
 cause-numbers = record {

@@ -1,4 +1,5 @@
--- Document 01, 'What a call hands back': the number of each cause. `CauseNumbers` is proved in proofs/Numbers.antt.
+-- The number of each cause: document 01, 'What a call hands back', and document 02, change 4. `CauseNumbers` is proved in
+-- proofs/Numbers.antt.
 use mathlib.Core.Path.{_≡_}
 use Prim.Native.Nat.{ℕ, _≤_}
 use Rattle.fault.specs.declared.Fault.{Fault}
@@ -15,6 +16,9 @@ use Rattle.fault.specs.declared.Fault.the-variants.{
   CurveVerb,
   TooManyVerbs,
   TooManyBoxes,
+  NotPgm,
+  WrongDepth,
+  WrongRaster,
 }
 
 abbrev pub numberOf : Fault → ℕ
@@ -30,6 +34,9 @@ numberOf PositionsMismatch = 9
 numberOf CurveVerb = 10
 numberOf TooManyVerbs = 11
 numberOf TooManyBoxes = 12
+numberOf NotPgm = 13
+numberOf WrongDepth = 14
+numberOf WrongRaster = 15
 
 -- Each cause has a number of its own, from 1 to 31. 0 and the numbers past 31 are left for what a done call answers
 pub record CauseNumbers : Type 0 where

@@ -1,9 +1,10 @@
-// Why a call is turned away: document 01's table of causes, and what a look at a call's arguments says.
+// Why a call is turned away: the causes that documents 01 and 02 number, and what a look at a call's
+// arguments says.
 ghost use mathlib.Core.Path.{_≡_};
 ghost use Rattle.fault.specs.Number.{numberOf};
 ghost use Rattle.fault.specs.Check.{unlessOf, _andThen_};
 
-// One variant for each of the table's twelve causes, in its words.
+// One variant for each cause, in its document's words: document 01's table to 12, document 02 from 13 on.
 pub enum Fault {
     // 1: a box, frame, point, fringe or position number is not finite, or its size is over 2^20
     NumberOutOfRange,
@@ -11,7 +12,7 @@ pub enum Fault {
     ImproperBox,
     // 3: a mask width or height over 4,096
     MaskTooLarge,
-    // 4: mask, other mask or scratch too short
+    // 4: mask, other mask or scratch too short; a lent file too short to be written
     BufferTooShort,
     // 5: a word list ends inside a group
     ListEndsEarly,
@@ -29,10 +30,17 @@ pub enum Fault {
     TooManyVerbs,
     // 12: over 256 boxes in a touch list
     TooManyBoxes,
+    // 13: a wrong mark, a missing or bad number or one of over nine digits, missing whitespace, a comment,
+    // or a width or height of 0
+    NotPgm,
+    // 14: a depth other than 255
+    WrongDepth,
+    // 15: a raster that is not exactly width × height bytes
+    WrongRaster,
 }
 
 impl Fault {
-    // The table's number.
+    // The documents' number.
     pub fn number(self) -> u8
         ensures { λ r. ⌜ r ≡ numberOf self ⌝ }
     {
@@ -49,6 +57,9 @@ impl Fault {
             Fault::CurveVerb => 10,
             Fault::TooManyVerbs => 11,
             Fault::TooManyBoxes => 12,
+            Fault::NotPgm => 13,
+            Fault::WrongDepth => 14,
+            Fault::WrongRaster => 15,
         }
     }
 }

@@ -190,6 +190,12 @@ pub fn answer(
     if fields::is(line, name, b"picture") {
         return buffers::picture(line, at, buffer, length);
     }
+    if fields::is(line, name, b"write_pgm") {
+        return pgm_calls::write_pgm(line, at, buffer, length);
+    }
+    if fields::is(line, name, b"read_pgm") {
+        return pgm_calls::read_pgm(line, at, buffer, length);
+    }
     buffers::left(length, draw(line, at, buffer, length))
 }
 
@@ -199,5 +205,7 @@ pub fn has(line: &[u8; MOST_LINE], name: Field) -> bool {
         || fields::is(line, name, b"bufn")
         || fields::is(line, name, b"show")
         || fields::is(line, name, b"picture")
+        || fields::is(line, name, b"write_pgm")
+        || fields::is(line, name, b"read_pgm")
         || fields::is(line, name, b"draw")
 }

@@ -1,9 +1,18 @@
-// What is written: text, floats, yes or no, a place, what is wrong with a line.
+// What is written: text, bytes, floats, yes or no, a place, what is wrong with a line.
 use fields::Problem;
 use libc::STDOUT_FILENO;
 
 pub fn write(text: &[u8]) {
     io::write_all(STDOUT_FILENO, text);
+}
+
+// Bytes, two digits each.
+pub fn hex(bytes: &[u8]) {
+    let mut i = 0;
+    while i < bytes.len() {
+        io::print_hex(STDOUT_FILENO, fields::wide(bytes[i]), 2);
+        i += 1;
+    }
 }
 
 // A float's bits; every NaN is written alike.

@@ -1,12 +1,11 @@
 -- An answer unless a check refuses: where the check refuses for each cause and passes where there is none, the answer is
--- a refusal for these causes alone. Assumes nothing.
+-- a refusal for these causes alone, and done where there is none alone. Assumes nothing.
 use mathlib.Core.Path.{_≡_, sym, _∙_, subst}
 use mathlib.Core.Logic.{_⊎_, inl, inr}
 use Rattle.fault.specs.declared.Fault.{Fault}
 use Rattle.fault.specs.declared.Check.{Check}
 use Rattle.fault.specs.declared.Check.the-variants as check
-use Rattle.fault.specs.Check.{answerUnless}
-use Rattle.box_fault.specs.Laws.{ForItsFirstCause}
+use Rattle.fault.specs.Check.{answerUnless, ForItsFirstCause}
 
 -- all is well, or there is a cause
 abbrev pub Decided : Type 0 → (Fault → Type 0) → Type 0
@@ -24,3 +23,8 @@ module _ {A : Type 0} {refused : Fault → A} {found : A} {c : Check} {Good : Ty
 
   pub told : Decided Good Cause → ForItsFirstCause refused (answerUnless refused c found) Cause
   told d = record { only = only d; always = always }
+
+  -- an answer that is no refusal
+  pub good : Decided Good Cause → ((f : Fault) → answerUnless refused c found ≡ refused f → ⊥) → Good
+  good (inl g) n = g
+  good (inr (f, k)) n = absurd (n f (always f k))

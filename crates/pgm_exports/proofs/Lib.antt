@@ -1,0 +1,2 @@
+-- Unlent: a file that is read where no mask is lent.
+pub mod Unlent

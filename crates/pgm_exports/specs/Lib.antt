@@ -1,0 +1,2 @@
+-- Calls: the calls on PGM files, on lent slices.
+pub mod Calls
