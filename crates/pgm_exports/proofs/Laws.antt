@@ -48,6 +48,7 @@ module _ (file mask : List ℕ) (size : ℕ) where
     where
       by-file : (g : Fault) → readCall file (length mask) ≡ read.Refused g → g ≡ f → FirstLentCause file (length mask) size f
       by-file g q e = subst (FirstLentCause file (length mask) size) e (of-file (read-exactly-when .refused file (length mask) .only g q))
+
       go : (t : Bool) (r : ReadAnswer) → ltb size 2 ≡ t → readCall file (length mask) ≡ r → sizeShort t r ≡ read.Refused f
           → FirstLentCause file (length mask) size f
       go true (read.Read s) l q e =
