@@ -10,7 +10,7 @@
  * at the same time in several threads where none writes what another is lent.
  *
  * Where fewer floats are lent than a box, frame, coverage, bounds or answer takes, the number is 4, before
- * any other cause. More may be lent: what lies past them is neither read nor changed. Only 0, 36, 37 and the
+ * any other cause. More may be lent: what lies past them is neither read nor changed. Only 0, 36, 37, 38 and the
  * lengths of beamnettle_write_pgm write anything, what their functions say: on every other number all lent memory
  * is left as it was.
  *
@@ -18,8 +18,9 @@
  * (no flush to zero, no denormals are zero), no floating-point exception trapped. Where these are changed,
  * nothing is promised of an answer.
  * A done answer may hold NaN or infinities, and numbers of a size over 2^20: the next call that is lent
- * them as a box or a frame refuses them with 1. A box that trimmed_scissor or rect_fill answers may have a
- * half extent below 0: a call that takes it refuses it with 2, or with 1 where a number in it is over 2^20.
+ * them as a box or a frame refuses them with 1. The first box of a cut (beamnettle_fit_with_cut) reaches further
+ * than its outline, and so may pass 2^20. A box that trimmed_scissor or rect_fill answers may have a half extent
+ * below 0: a call that takes it refuses it with 2, or with 1 where a number in it is over 2^20.
  *
  * A frame a b c d x y takes a point (px, py) to (a * px + c * py + x, b * px + d * py + y). A box
  * reaches from minus its half extents to its half extents along the axes, with elliptical corners of its
@@ -42,7 +43,7 @@ extern "C" {
 #endif
 
 /* What a function returns: 8 bits, but for beamnettle_touch and beamnettle_write_pgm, which return 32. 1 to 31 are
- * refusals alone. */
+ * refusals alone, and 10 is given to nothing. */
 enum {
     BEAMNETTLE_DONE = 0,
     /* refused: */
@@ -55,7 +56,6 @@ enum {
     BEAMNETTLE_COORDINATE_OUT_OF_RANGE = 7, /* a coordinate word beyond +-1,048,576 */
     BEAMNETTLE_UNKNOWN_VERB = 8,            /* a verb byte above 5 */
     BEAMNETTLE_POSITIONS_MISMATCH = 9,      /* verbs need more positions than given, or fewer */
-    BEAMNETTLE_CURVE_VERB = 10,             /* a curve verb given to the fitter */
     BEAMNETTLE_TOO_MANY_VERBS = 11,         /* over 256 verbs */
     BEAMNETTLE_TOO_MANY_BOXES = 12,         /* over 256 boxes in a touch list */
     BEAMNETTLE_NOT_PGM = 13,                /* a PGM mark, number or whitespace at fault, or a width or height of 0 */
@@ -68,13 +68,22 @@ enum {
     BEAMNETTLE_NO_FRAME = 35,     /* beamnettle_touch: no box is touched */
     BEAMNETTLE_SHARED = 36,       /* beamnettle_rect_fill: a box is written, which the two share */
     BEAMNETTLE_COVERED = 37,      /* beamnettle_rect_fill: a box is written, around the clip */
+    BEAMNETTLE_CUT = 38,          /* beamnettle_fit_with_cut: a box, its strays and a cut box are written */
     BEAMNETTLE_FIRST_PLACE = 256, /* beamnettle_touch: the box at place k, counted from 0, is 256 + k */
     BEAMNETTLE_FIRST_LENGTH = 256 /* beamnettle_write_pgm: a file of n bytes, which is written, is 256 + n */
 };
 
 /* How many floats there are in a box (frame a b c d x y, half extents, radii), a frame, a coverage
- * (linear part by rows, offset, half extents, radii, strays) and bounds (least x, least y, most x, most y). */
-enum { BEAMNETTLE_BOX = 10, BEAMNETTLE_FRAME = 6, BEAMNETTLE_COVERAGE = 11, BEAMNETTLE_BOUNDS = 4 };
+ * (linear part by rows, offset, half extents, radii, strays), bounds (least x, least y, most x, most y), a fitted
+ * outline (box, strays) and one that may be cut (box, strays, cut box). */
+enum {
+    BEAMNETTLE_BOX = 10,
+    BEAMNETTLE_FRAME = 6,
+    BEAMNETTLE_COVERAGE = 11,
+    BEAMNETTLE_BOUNDS = 4,
+    BEAMNETTLE_OUTLINE = 11,
+    BEAMNETTLE_CUT_OUTLINE = 21
+};
 
 /* A box of a touch list: the same ten floats, in the same order. */
 struct beamnettle_box {
@@ -129,13 +138,32 @@ uint32_t beamnettle_write_pgm(const uint8_t *mask, size_t mask_length, size_t wi
 uint8_t beamnettle_read_pgm(const uint8_t *file, size_t file_length, uint8_t *mask, size_t mask_length, size_t *size,
                             size_t size_length);
 
-/* The box that a straight outline draws. Verbs: 0 move to and 1 line to, with one position each; 2 curve,
- * with three; 3 solid, 4 hole and 5 close, with none. A position is two floats, and positions_length counts
- * floats. Writes a box to out.
- * Returns 0; 32 where the outline is no box; or 11, then 8 (a byte above 5) or 10 (a curve) at the first
- * verb at fault, then 9 where the floats are not just those that the verbs take, an odd one too, then 1. */
+/* The box that an outline draws: one contour, once around a parallelogram, or, where it has curves, around a
+ * rectangle along the axes with four corners alike, square or round, or an ellipse along the axes. An outline with
+ * curves may lie off the box by 0.005 of the radius at a round corner, of the smaller half extent elsewhere. Verbs: 0
+ * move to and 1 line to, with one position each; 2 curve, with three (two control points, then its end); 3 solid, 4
+ * hole and 5 close, with none. A position is two floats, and positions_length counts floats. Writes a box to out.
+ * Returns 0; 32 where the outline is no box, or a cut one (beamnettle_fit_with_cut); or 11, then 8 where a byte is
+ * above 5, then 9 where the floats are not just those that the verbs take, an odd one too, then 1. */
 uint8_t beamnettle_fit(const uint8_t *verbs, size_t verbs_length, const float *positions, size_t positions_length,
                        float *out, size_t out_length);
+
+/* The box of beamnettle_fit and its strays: 1.1 times the furthest that a sample of the outline lies outside the box,
+ * at least +0, in the outline's units. Samples are the ends of lines and curves, the middle of each line and seven
+ * points within each curve, at even steps of its parameter. Without curves the strays are +0. Writes a box and its
+ * strays to out, eleven floats. Returns what beamnettle_fit returns. */
+uint8_t beamnettle_fit_outline(const uint8_t *verbs, size_t verbs_length, const float *positions,
+                               size_t positions_length, float *out, size_t out_length);
+
+/* The same, and what a tab draws: a rectangle along the axes of which just the two corners of one side are square and
+ * the others are round and alike. That is a cut: a box with four round corners that runs past the square side by twice
+ * its radius there, and the cut box, the outline's own rectangle with square corners; the outline holds what lies in
+ * both, and its strays are outside that. Writes a box and its strays to out, and of a cut the cut box behind them, 21
+ * floats in all. That many are asked for always; without a cut the last ten are left as they were.
+ * Returns 0 where the outline is whole, 38 where it is a cut, 32 where it is neither, or what beamnettle_fit refuses,
+ * in its order. */
+uint8_t beamnettle_fit_with_cut(const uint8_t *verbs, size_t verbs_length, const float *positions,
+                                size_t positions_length, float *out, size_t out_length);
 
 /* The box through a frame after its own. Writes a box to out. Returns 0, or 1 or 2 for the box, then 1. */
 uint8_t beamnettle_transformed(const float *box, size_t box_length, const float *frame, size_t frame_length,
@@ -205,9 +233,9 @@ uint8_t beamnettle_rect_fill(const float *clip, size_t clip_length, const float 
                              float fringe, float *out, size_t out_length);
 
 /* The upright rect that an outline fills under a frame, if it is one: the box of beamnettle_fit through the
- * frame, with sides along the axes. Writes a box to out.
- * Returns 0; 32 where the outline is no box, where the box does not lie along the axes, or where there are more
- * than 8 verbs; or what beamnettle_fit refuses, in its order, then 1 for the frame. */
+ * frame, with sides along the axes and square corners. Writes a box to out.
+ * Returns 0; 32 where the outline is no box or has round corners, where the box does not lie along the axes, or where
+ * there are more than 8 verbs; or what beamnettle_fit refuses, in its order, then 1 for the frame. */
 uint8_t beamnettle_upright_rect(const uint8_t *verbs, size_t verbs_length, const float *positions,
                                 size_t positions_length, const float *frame, size_t frame_length, float *out,
                                 size_t out_length);

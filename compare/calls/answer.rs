@@ -1,7 +1,7 @@
 //! A list's answers, by femtovg; those about PGM files by the second reader and writer. Of a bad line it
 //! says what is wrong, as the program `calls` does.
 use crate::netpbm;
-use femtovg::calls::{self, Both, Box10, Drawing, Fill};
+use femtovg::calls::{self, Both, Box10, Drawing, Fill, Fitted};
 use std::str::SplitWhitespace;
 
 #[derive(Default)]
@@ -113,6 +113,14 @@ fn filled(answer: Option<(Fill, Box10)>) -> String {
     }
 }
 
+fn fitted(answer: Option<Fitted>) -> String {
+    match answer {
+        Some(Fitted::Whole(outline)) => named("whole", &outline),
+        Some(Fitted::Cut(floats)) => named("cut", &floats),
+        None => "nobox".to_string(),
+    }
+}
+
 fn verb(f: &mut Fields) -> Result<u8, Bad> {
     let field = f.next().ok_or(MISSING)?;
     field.parse().map_err(|_| NOT_A_BYTE)
@@ -141,6 +149,18 @@ fn outline(f: &mut Fields, behind: usize) -> Result<(Vec<u8>, Vec<f32>), Bad> {
 fn fit(f: &mut Fields) -> Result<String, Bad> {
     let (verbs, positions) = outline(f, 0)?;
     Ok(answered(calls::fit(&verbs, &positions), maybe("box")))
+}
+
+fn fit_outline(f: &mut Fields) -> Result<String, Bad> {
+    let (verbs, positions) = outline(f, 0)?;
+    let answer = calls::fit_outline(&verbs, &positions);
+    Ok(answered(answer, maybe("outline")))
+}
+
+fn fit_with_cut(f: &mut Fields) -> Result<String, Bad> {
+    let (verbs, positions) = outline(f, 0)?;
+    let answer = calls::fit_with_cut(&verbs, &positions);
+    Ok(answered(answer, fitted))
 }
 
 fn upright_rect(f: &mut Fields) -> Result<String, Bad> {
@@ -319,6 +339,8 @@ impl State {
             "write_pgm" => self.write_pgm(f),
             "read_pgm" => self.read_pgm(f),
             "fit" => fit(f),
+            "fit_outline" => fit_outline(f),
+            "fit_with_cut" => fit_with_cut(f),
             "upright_rect" => upright_rect(f),
             "touch" => touch(f),
             name => on_boxes(name, f),

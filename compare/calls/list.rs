@@ -2,6 +2,7 @@
 //! inside it, known corners, and random calls from a fixed seed.
 use crate::{
     chains::{chains, layings, offsets},
+    curves::curves,
     holds::holds,
     pgm::pgms,
     scissors::{bad_scissors, scissors},
@@ -402,7 +403,7 @@ fn masks(l: &mut List) {
 }
 
 fn outlines(l: &mut List) {
-    l.line("# numbers 8 to 11, and their order");
+    l.line("# numbers 8, 9, 11 and 1, and their order");
     let p = [0.0, 0.0, 4.0, 0.0, 4.0, 2.0, 0.0, 2.0];
     for verb in [2, 3, 4, 5, 6, 255] {
         l.fit(&[0, 1, 1, 1, verb], &p);
@@ -633,7 +634,7 @@ pub fn list() -> String {
     let mut list = List::default();
     for part in [
         examples, numbers, improper, masks, layings, offsets, outlines, corners, random, chains,
-        touches, scissors, holds, bad_lines, pgms,
+        touches, scissors, holds, bad_lines, pgms, curves,
     ] {
         part(&mut list);
     }

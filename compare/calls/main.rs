@@ -3,11 +3,14 @@
 //! says how many calls of each kind a list has.
 mod answer;
 mod chains;
+mod curves;
 mod holds;
 mod list;
 #[path = "../netpbm/pgm.rs"]
 mod netpbm;
 mod pgm;
+#[path = "../outlines/ring.rs"]
+mod ring;
 mod scissors;
 mod touches;
 

@@ -25,7 +25,7 @@ impl List {
         self.pair("rect_fill", clip, fill, 1.0);
     }
 
-    fn upright_rect(&mut self, verbs: &[u8], positions: &[f32], frame: [f32; 6]) {
+    pub fn upright_rect(&mut self, verbs: &[u8], positions: &[f32], frame: [f32; 6]) {
         self.outline("upright_rect", verbs, positions, &frame);
     }
 }
@@ -235,7 +235,7 @@ fn rects(l: &mut List) {
 
 /// The outline's causes before the frame's, and the eight verbs after all.
 fn rect_causes(l: &mut List) {
-    l.line("# upright_rect: numbers 11, 8, 10, 9 and 1, the outline's before the frame's");
+    l.line("# upright_rect: numbers 11, 8, 9 and 1, the outline's before the frame's");
     let bad_frame = with(UNIT, 5, f32::NAN);
     let bad_corners = with(CORNERS, 7, f32::NAN);
     let mut many = VERBS.to_vec();

@@ -16,6 +16,10 @@ pub type Box10 = [f32; 10];
 pub type Frame = [f32; 6];
 pub type Coverage11 = [f32; 11];
 pub type Bounds4 = [f32; 4];
+/// A box and its strays.
+pub type Outline11 = [f32; 11];
+/// A box, its strays and the cut box.
+pub type Cut21 = [f32; 21];
 
 /// A number of document 01's table.
 pub type Refused = u8;
@@ -29,7 +33,6 @@ const COUNT: Refused = 6;
 const COORDINATE: Refused = 7;
 const VERB: Refused = 8;
 const POSITIONS: Refused = 9;
-const CURVE: Refused = 10;
 const VERBS: Refused = 11;
 const BOXES: Refused = 12;
 
@@ -222,7 +225,7 @@ fn check_outline(verbs: &[u8], positions: &[f32]) -> Result<(), Refused> {
     for verb in verbs {
         needed += match verb {
             0 | 1 => 2,
-            2 => return Err(CURVE),
+            2 => 6,
             3..=5 => 0,
             _ => return Err(VERB),
         };
@@ -233,25 +236,55 @@ fn check_outline(verbs: &[u8], positions: &[f32]) -> Result<(), Refused> {
     check_all(positions)
 }
 
+/// What an outline draws: one box, or a box that a rectangle cuts.
+#[derive(Copy, Clone, Debug, PartialEq)]
+pub enum Fitted {
+    Whole(Outline11),
+    Cut(Cut21),
+}
+
 pub fn fit(verbs: &[u8], positions: &[f32]) -> Result<Option<Box10>, Refused> {
     check_outline(verbs, positions)?;
     Ok(RoundedBox::fit(&path(verbs, positions)).map(floats))
 }
 
+pub fn fit_outline(verbs: &[u8], positions: &[f32]) -> Result<Option<Outline11>, Refused> {
+    check_outline(verbs, positions)?;
+    let fitted = RoundedBox::fit_outline(&path(verbs, positions));
+    Ok(fitted.map(|(shape, strays)| outlined(shape, strays)))
+}
+
+pub fn fit_with_cut(verbs: &[u8], positions: &[f32]) -> Result<Option<Fitted>, Refused> {
+    check_outline(verbs, positions)?;
+    let fitted = RoundedBox::fit_with_cut(&path(verbs, positions));
+    Ok(fitted.map(|(shape, strays, cut)| {
+        let outline = outlined(shape, strays);
+        cut.map_or(Fitted::Whole(outline), |cut| {
+            Fitted::Cut(joined(&outline, &floats(cut)))
+        })
+    }))
+}
+
+fn outlined(shape: RoundedBox, strays: f32) -> Outline11 {
+    joined(&floats(shape), &[strays])
+}
+
+/// Floats, and others behind them, so many in all.
+fn joined<const N: usize>(one: &[f32], two: &[f32]) -> [f32; N] {
+    let all = [one, two].concat();
+    all.try_into().expect("so many")
+}
+
 /// The path of an outline without a fault.
 pub(crate) fn path(verbs: &[u8], positions: &[f32]) -> Path {
     let mut path = Path::new();
-    let mut positions = positions.chunks_exact(2);
+    let mut numbers = positions.iter().copied();
     for verb in verbs {
+        let mut next = || numbers.next().expect("checked");
         match verb {
-            0 | 1 => {
-                let at = positions.next().expect("checked");
-                if *verb == 0 {
-                    path.move_to(at[0], at[1]);
-                } else {
-                    path.line_to(at[0], at[1]);
-                }
-            }
+            0 => path.move_to(next(), next()),
+            1 => path.line_to(next(), next()),
+            2 => path.bezier_to(next(), next(), next(), next(), next(), next()),
             3 => path.solidity(Solidity::Solid),
             4 => path.solidity(Solidity::Hole),
             _ => path.close(),

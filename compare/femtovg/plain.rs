@@ -116,6 +116,14 @@ impl Outline {
         black_box(RoundedBox::fit(black_box(&self.0)));
     }
 
+    pub fn fit_outline(&self) {
+        black_box(RoundedBox::fit_outline(black_box(&self.0)));
+    }
+
+    pub fn fit_with_cut(&self) {
+        black_box(RoundedBox::fit_with_cut(black_box(&self.0)));
+    }
+
     pub fn upright_rect(&self, frame: Frame) {
         let frame = Transform2D(frame);
         black_box(RoundedBox::upright_rect(black_box(&self.0), &frame));

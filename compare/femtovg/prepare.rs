@@ -9,9 +9,10 @@ type Substitution = (&'static str, &'static str, &'static str, usize, &'static s
 const FILES: [&str; 5] = ["geometry.rs", "path.rs", "clip/coverage.rs", "clip/mask.rs", "clip/shape.rs"];
 
 const MEANING: &str = "document 01's meaning";
+const ARCTANGENT: &str = "document 02's arctangent";
 const IMPORT: &str = "import";
 
-const SUBSTITUTIONS: [Substitution; 13] = [
+const SUBSTITUTIONS: [Substitution; 14] = [
     ("geometry.rs", "use fnv::FnvHasher;", "use std::collections::hash_map::DefaultHasher as FnvHasher;", 1, IMPORT),
     ("path.rs", "mod cache;", "use crate::cache;", 1, IMPORT),
     ("geometry.rs", ".hypot(", ".hypot01(", 3, MEANING),
@@ -25,6 +26,7 @@ const SUBSTITUTIONS: [Substitution; 13] = [
     ("clip/shape.rs", "f32::min,", "f32::min01,", 2, MEANING),
     ("clip/shape.rs", "f32::max,", "f32::max01,", 2, MEANING),
     ("clip/shape.rs", "f32::max)", "f32::max01)", 1, MEANING),
+    ("clip/shape.rs", ".atan2(", ".arctan02(", 1, ARCTANGENT),
 ];
 
 /// Lines put behind the end of a file.

@@ -18,6 +18,7 @@ extern "C" {
     fn beamnettle_float_sqrt(x: f32) -> f32;
     fn beamnettle_float_sqrt64(x: f64) -> f64;
     fn beamnettle_float_hypot(x: f32, y: f32) -> f32;
+    fn beamnettle_float_atan2(y: f32, x: f32) -> f32;
     fn beamnettle_float_floor(x: f32) -> f32;
     fn beamnettle_float_ceil(x: f32) -> f32;
     fn beamnettle_float_to_column(x: f32) -> usize;
@@ -37,7 +38,7 @@ fn same64(a: f64, b: f64) -> bool {
     a.to_bits() == b.to_bits() || (a.is_nan() && b.is_nan())
 }
 
-// The meanings of document 01 that Rust has no operation for.
+// The meanings of documents 01 and 02 that Rust has no operation for.
 fn larger(x: f32, y: f32) -> f32 {
     if x.is_nan() || y > x {
         y
@@ -57,6 +58,36 @@ fn smaller(x: f32, y: f32) -> f32 {
 fn two_step_hypot(x: f32, y: f32) -> f32 {
     let (x, y) = (x as f64, y as f64);
     (x * x + y * y).sqrt() as f32
+}
+
+// Document 02: the smaller size by the larger, an angle of an eighth turn at most, then the octant.
+fn arctangent(y: f32, x: f32) -> f32 {
+    let (mut small, mut large) = (y.abs(), x.abs());
+    let steep = large < small;
+    if steep {
+        (small, large) = (large, small);
+    }
+    let a = if [small, large] == [0.0, 0.0] {
+        0.0
+    } else {
+        small / large
+    };
+    let s = a * a;
+    let mut r = -0.0464964749 * s;
+    r = (r + 0.15931422) * s;
+    r = (r - 0.327622764) * s;
+    r = r * a + a;
+    if steep {
+        r = 1.57079637 - r;
+    }
+    if x < 0.0 {
+        r = 3.14159274 - r;
+    }
+    if y < 0.0 {
+        -r
+    } else {
+        r
+    }
 }
 
 // How far one function's comparison is.
@@ -233,6 +264,11 @@ fn main() {
         });
         c.pairs("hypot", |x, y| {
             same32(beamnettle_float_hypot(x, y), two_step_hypot(x, y))
+        });
+        // each pair either way round
+        c.pairs("atan2", |x, y| {
+            same32(beamnettle_float_atan2(y, x), arctangent(y, x))
+                && same32(beamnettle_float_atan2(x, y), arctangent(x, y))
         });
         c.doubles("narrow", |x| same32(beamnettle_float_narrow(x), x as f32));
         c.doubles("sqrt64", |x| same64(beamnettle_float_sqrt64(x), x.sqrt()));

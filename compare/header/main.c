@@ -1,7 +1,8 @@
 /* Calls every function of include/beamnettle.h from C, with different numbers in every place, and checks
  * the number, all that is written, and that what lies past it is not changed. What is expected is document
- * 01's examples, or is reckoned in whole numbers, halves and quarters beside the call. Then touch, on structs, is
- * held to coverage and distance, on arrays. The exit status is 1 where a check fails. */
+ * 01's examples, or is reckoned in whole numbers, halves and quarters beside the call; strays are reckoned sample by
+ * sample. Then touch, on structs, is held to coverage and distance, on arrays. The exit status is 1 where a check
+ * fails. */
 #include "beamnettle.h"
 
 #include <math.h>
@@ -23,7 +24,7 @@ static void check(int good, int line, const char *what) {
 /* ---- what is lent for an answer: rubbish, in each buffer at least two floats more than an answer takes */
 
 enum { BOX = BEAMNETTLE_BOX, FRAME = BEAMNETTLE_FRAME, COVERAGE = BEAMNETTLE_COVERAGE, BOUNDS = BEAMNETTLE_BOUNDS };
-enum { LENT = COVERAGE + 2 };
+enum { OUTLINE = BEAMNETTLE_OUTLINE, CUT_OUTLINE = BEAMNETTLE_CUT_OUTLINE, LENT = CUT_OUTLINE + 2 };
 
 static float out[LENT], also[LENT];
 
@@ -298,13 +299,146 @@ static void fitting(void) {
     const float corners[] = {3, 5, 9, 5, 9, 9, 3, 9}, far[] = {3, 5, 9, 5, 9, 9, 3, 1048577};
     static const uint8_t many[257];
     WRITES(beamnettle_fit(verbs, 5, corners, 8, out, BOX), 1, 0, 0, 1, 6, 7, 3, 2, 0, 0);
+    WRITES(beamnettle_fit_outline(verbs, 5, corners, 8, out, OUTLINE), 1, 0, 0, 1, 6, 7, 3, 2, 0, 0, 0);
+    WRITES(beamnettle_fit_with_cut(verbs, 5, corners, 8, out, CUT_OUTLINE), 1, 0, 0, 1, 6, 7, 3, 2, 0, 0, 0);
     RETURNS(BEAMNETTLE_NONE, beamnettle_fit(apart, 4, corners, 6, out, BOX));
     RETURNS(BEAMNETTLE_BUFFER_TOO_SHORT, beamnettle_fit(many, 257, corners, 8, out, BOX - 1));
     RETURNS(BEAMNETTLE_TOO_MANY_VERBS, beamnettle_fit(many, 257, corners, 8, out, BOX));
-    RETURNS(BEAMNETTLE_CURVE_VERB, beamnettle_fit(curve, 3, corners, 8, out, BOX));
+    RETURNS(BEAMNETTLE_UNKNOWN_VERB, beamnettle_fit(curve, 3, corners, 7, out, BOX));
     RETURNS(BEAMNETTLE_UNKNOWN_VERB, beamnettle_fit(unknown, 2, corners, 8, out, BOX));
+    RETURNS(BEAMNETTLE_NONE, beamnettle_fit(curve, 2, corners, 8, out, BOX));
+    RETURNS(BEAMNETTLE_POSITIONS_MISMATCH, beamnettle_fit(curve, 2, far, 7, out, BOX));
     RETURNS(BEAMNETTLE_POSITIONS_MISMATCH, beamnettle_fit(verbs, 5, corners, 7, out, BOX));
     RETURNS(BEAMNETTLE_NUMBER_OUT_OF_RANGE, beamnettle_fit(verbs, 5, far, 8, out, BOX));
+    RETURNS(BEAMNETTLE_NUMBER_OUT_OF_RANGE, beamnettle_fit(curve, 2, far, 8, out, BOX));
+}
+
+/* ---- outlines with curves */
+
+/* The circle of radius 1, from its right end; two tabs, from (0, 0) to (8, 4) and from (0, 0) to (4, 8), round at low y
+ * and at low x with radii 2 and 1, 1 and 2. Control points at 0.55 of a radius keep every sample of a curve inside. */
+#define KAPPA 0.5522848f
+static const uint8_t CIRCLE_VERBS[] = {0, 2, 2, 2, 2}, TAB_VERBS[] = {0, 2, 1, 2, 1, 1, 5};
+enum { CIRCLE_FLOATS = 26, TAB_FLOATS = 20 };
+static const float CIRCLE[] = {1, 0, 1, KAPPA, KAPPA, 1, 0, 1, -KAPPA, 1, -1, KAPPA, -1, 0,
+                               -1, -KAPPA, -KAPPA, -1, 0, -1, KAPPA, -1, 1, -KAPPA, 1, 0};
+#define TAB(kappa)                                                                                        \
+    {0, 1, 0, 1 - (kappa), 2 - 2 * (kappa), 0, 2, 0, 6, 0, 6 + 2 * (kappa), 0, 8, 1 - (kappa), 8, 1, 8, 4, 0, 4}
+static const float TAB_INSIDE[] = TAB(0.55f), TAB_OUTSIDE[] = TAB(KAPPA);
+
+static float at(float from, float one, float two, float end, float t) {
+    float s = 1 - t;
+    return s * s * s * from + 3 * s * s * t * one + 3 * s * t * t * two + t * t * t * end;
+}
+
+static float root(float x, float y) { return (float)sqrt((double)x * (double)x + (double)y * (double)y); }
+
+/* How far the samples of a corner's curve, of eight floats, lie outside a box on the axes at most. */
+static float outside(const float *curve, const float *box) {
+    float most = 0, rx = box[8], ry = box[9];
+    for (int i = 1; i < 8; i++) {
+        float t = (float)i / 8;
+        float side_x = fabsf(at(curve[0], curve[2], curve[4], curve[6], t) - box[4]) - box[6];
+        float side_y = fabsf(at(curve[1], curve[3], curve[5], curve[7], t) - box[5]) - box[7];
+        float x = (side_x + rx) / rx, y = (side_y + ry) / ry;
+        most = fmaxf(most, (root(x, y) - 1) * root(x, y) / root(x / rx, y / ry));
+    }
+    return most;
+}
+
+/* The numbers for an outline, with so many floats lent. */
+static uint8_t outline(const uint8_t *verbs, size_t n, const float *positions, size_t floats, size_t lent_floats) {
+    return beamnettle_fit_outline(verbs, n, positions, floats, out, lent_floats);
+}
+
+static uint8_t with_cut(const uint8_t *verbs, size_t n, const float *positions, size_t floats, size_t lent_floats) {
+    return beamnettle_fit_with_cut(verbs, n, positions, floats, out, lent_floats);
+}
+
+static void rounding(void) {
+    /* a circle: whole, and its strays those of each of its four curves */
+    const float disc[] = {1, 0, 0, 1, 0, 0, 1, 1, 1, 1}, strays = outside(CIRCLE, disc) * 1.1f;
+    CHECK(strays == 0.00028455257f);
+    WRITES(beamnettle_fit(CIRCLE_VERBS, 5, CIRCLE, CIRCLE_FLOATS, out, BOX), 1, 0, 0, 1, 0, 0, 1, 1, 1, 1);
+    for (size_t past = 0; past < 3; past++) {
+        WRITES(outline(CIRCLE_VERBS, 5, CIRCLE, CIRCLE_FLOATS, OUTLINE + past), 1, 0, 0, 1, 0, 0, 1, 1, 1, 1, strays);
+        WRITES(with_cut(CIRCLE_VERBS, 5, CIRCLE, CIRCLE_FLOATS, CUT_OUTLINE + past), 1, 0, 0, 1, 0, 0, 1, 1, 1, 1,
+               strays);
+    }
+    RETURNS(BEAMNETTLE_BUFFER_TOO_SHORT, outline(CIRCLE_VERBS, 5, CIRCLE, CIRCLE_FLOATS, OUTLINE - 1));
+    RETURNS(BEAMNETTLE_BUFFER_TOO_SHORT, with_cut(CIRCLE_VERBS, 5, CIRCLE, CIRCLE_FLOATS, CUT_OUTLINE - 1));
+    RETURNS(BEAMNETTLE_BUFFER_TOO_SHORT, with_cut(CIRCLE_VERBS, 5, CIRCLE, CIRCLE_FLOATS, OUTLINE));
+
+    /* an empty curve at the start of the rectangle from (3, 5) to (9, 9) */
+    const uint8_t verbs[] = {0, 2, 1, 1, 1};
+    const float corners[] = {3, 5, 3, 5, 3, 5, 3, 5, 9, 5, 9, 9, 3, 9};
+    WRITES(beamnettle_fit(verbs, 5, corners, 14, out, BOX), 1, 0, 0, 1, 6, 7, 3, 2, 0, 0);
+    WRITES(outline(verbs, 5, corners, 14, OUTLINE), 1, 0, 0, 1, 6, 7, 3, 2, 0, 0, 0);
+    WRITES(with_cut(verbs, 5, corners, 14, CUT_OUTLINE), 1, 0, 0, 1, 6, 7, 3, 2, 0, 0, 0);
+}
+
+static void cutting(void) {
+    /* past the square side at 4 by twice the radius of 1: a side at 6 */
+    for (size_t past = 0; past < 3; past++)
+        ANSWERS(BEAMNETTLE_CUT, with_cut(TAB_VERBS, 7, TAB_INSIDE, TAB_FLOATS, CUT_OUTLINE + past),
+                1, 0, 0, 1, 4, 3, 4, 3, 2, 1, 0, 1, 0, 0, 1, 4, 2, 4, 2, 0, 0);
+    float other_way[TAB_FLOATS];
+    for (size_t i = 0; i < TAB_FLOATS; i++) other_way[i] = TAB_INSIDE[i ^ 1];
+    ANSWERS(BEAMNETTLE_CUT, with_cut(TAB_VERBS, 7, other_way, TAB_FLOATS, CUT_OUTLINE),
+            1, 0, 0, 1, 3, 4, 3, 4, 1, 2, 0, 1, 0, 0, 1, 2, 4, 2, 4, 0, 0);
+    const float tab[] = {1, 0, 0, 1, 4, 2, 4, 2, 2, 1};
+    const float strays = fmaxf(outside(TAB_OUTSIDE, tab), outside(TAB_OUTSIDE + 8, tab)) * 1.1f;
+    CHECK(strays > 0);
+    ANSWERS(BEAMNETTLE_CUT, with_cut(TAB_VERBS, 7, TAB_OUTSIDE, TAB_FLOATS, CUT_OUTLINE),
+            1, 0, 0, 1, 4, 3, 4, 3, 2, 1, strays, 1, 0, 0, 1, 4, 2, 4, 2, 0, 0);
+    RETURNS(BEAMNETTLE_NONE, beamnettle_fit(TAB_VERBS, 7, TAB_INSIDE, TAB_FLOATS, out, BOX));
+    RETURNS(BEAMNETTLE_NONE, outline(TAB_VERBS, 7, TAB_INSIDE, TAB_FLOATS, OUTLINE));
+    RETURNS(BEAMNETTLE_BUFFER_TOO_SHORT, with_cut(TAB_VERBS, 7, TAB_INSIDE, TAB_FLOATS, CUT_OUTLINE - 1));
+    RETURNS(BEAMNETTLE_BUFFER_TOO_SHORT, outline(TAB_VERBS, 7, TAB_INSIDE, TAB_FLOATS, OUTLINE - 1));
+    RETURNS(BEAMNETTLE_NONE, with_cut(TAB_VERBS, 2, TAB_INSIDE, 8, CUT_OUTLINE));
+}
+
+static void refusing_outlines(void) {
+    const uint8_t unknown[] = {0, 2, 6};
+    const float far[] = {3, 5, 9, 5, 9, 9, 3, 1048577};
+    static const uint8_t many[257];
+    const struct {
+        const uint8_t *verbs;
+        size_t n;
+        const float *positions;
+        size_t floats;
+        uint8_t number;
+    } refused[] = {
+        {many, 257, far, 8, BEAMNETTLE_TOO_MANY_VERBS},
+        {many, 256, far, 8, BEAMNETTLE_POSITIONS_MISMATCH},
+        {unknown, 3, far, 7, BEAMNETTLE_UNKNOWN_VERB},
+        {unknown, 2, far, 7, BEAMNETTLE_POSITIONS_MISMATCH},
+        {unknown, 2, CIRCLE, 9, BEAMNETTLE_POSITIONS_MISMATCH},
+        {unknown, 2, far, 8, BEAMNETTLE_NUMBER_OUT_OF_RANGE},
+    };
+    for (size_t i = 0; i < sizeof refused / sizeof *refused; i++) {
+        RETURNS(refused[i].number,
+                outline(refused[i].verbs, refused[i].n, refused[i].positions, refused[i].floats, OUTLINE));
+        RETURNS(refused[i].number,
+                with_cut(refused[i].verbs, refused[i].n, refused[i].positions, refused[i].floats, CUT_OUTLINE));
+        RETURNS(BEAMNETTLE_BUFFER_TOO_SHORT,
+                outline(refused[i].verbs, refused[i].n, refused[i].positions, refused[i].floats, OUTLINE - 1));
+        RETURNS(BEAMNETTLE_BUFFER_TOO_SHORT,
+                with_cut(refused[i].verbs, refused[i].n, refused[i].positions, refused[i].floats, CUT_OUTLINE - 1));
+    }
+}
+
+/* As many curves as an outline takes: a circle, most of whose curves are empty. */
+static void most_curves(void) {
+    enum { CURVES = 255, EMPTY = CURVES - 4 };
+    static uint8_t verbs[CURVES + 1];
+    static float positions[2 + 6 * CURVES];
+    memset(verbs + 1, 2, CURVES);
+    for (size_t i = 0; i < 2 + 6 * EMPTY; i++) positions[i] = CIRCLE[i % 2];
+    memcpy(positions + 6 * EMPTY, CIRCLE, sizeof CIRCLE);
+    const float disc[] = {1, 0, 0, 1, 0, 0, 1, 1, 1, 1}, strays = outside(CIRCLE, disc) * 1.1f;
+    WRITES(outline(verbs, 256, positions, 2 + 6 * CURVES, OUTLINE), 1, 0, 0, 1, 0, 0, 1, 1, 1, 1, strays);
+    WRITES(with_cut(verbs, 256, positions, 2 + 6 * CURVES, CUT_OUTLINE), 1, 0, 0, 1, 0, 0, 1, 1, 1, 1, strays);
 }
 
 static void transforming(void) {
@@ -404,7 +538,7 @@ static void measuring(void) {
 
 /* AROUND holds TURNED, which lies from (-14, 2) to (26, 14), whole; LEFT lies from (-3, -1) to (5, 5), RIGHT
  * from (-2, 2) to (8, 6). */
-static const float AROUND[] = {1, 0, 0, 1, 6, 8, 30, 20, 0, 0};
+static const float AROUND[LENT] = {1, 0, 0, 1, 6, 8, 30, 20, 0, 0};
 static const float LEFT[] = {1, 0, 0, 1, 1, 2, 4, 3, 0, 0}, RIGHT[] = {1, 0, 0, 1, 3, 4, 5, 2, 0, 0};
 
 /* The number for a clip and a scissor at a fringe, with so many floats lent of each, for the box and the coverage. */
@@ -494,12 +628,20 @@ static uint8_t upright(const uint8_t *verbs, size_t n, const float *positions, s
 
 static void filling_upright(void) {
     /* the rectangle from (3, 5) to (9, 9), taken to (-3 py + 5, 2 px + 1); no ninth verb */
-    const uint8_t verbs[] = {0, 1, 1, 1, 5, 3, 4, 3, 3}, curve[] = {0, 2, 6}, unknown[] = {6, 2};
+    const uint8_t verbs[] = {0, 1, 1, 1, 5, 3, 4, 3, 3}, unknown[] = {6, 2};
+    const uint8_t curve[] = {0, 2, 1, 1, 1, 3, 4, 5, 5, 6};
+    const float stopped[] = {3, 5, 3, 5, 3, 5, 3, 5, 9, 5, 9, 9, 3, 9};
     const float corners[] = {3, 5, 9, 5, 9, 9, 3, 9}, far[] = {3, 5, 9, 5, 9, 9, 3, 1048577};
     const float quarter[] = {0, 2, -3, 0, 5, 1}, leaning[] = {1, 1, 0, 1, 0, 0}, endless[] = {0, 2, -3, 0, 5, INFINITY};
     static const uint8_t many[257];
     WRITES(upright(verbs, 5, corners, 8, quarter), 0, 2, -3, 0, -3 * 7 + 5, 2 * 6 + 1, 3, 2, 0, 0);
     WRITES(upright(verbs, 8, corners, 8, quarter), 0, 2, -3, 0, -3 * 7 + 5, 2 * 6 + 1, 3, 2, 0, 0);
+    /* an empty curve at its start; round corners, a cut */
+    WRITES(upright(curve, 5, stopped, 14, quarter), 0, 2, -3, 0, -3 * 7 + 5, 2 * 6 + 1, 3, 2, 0, 0);
+    WRITES(upright(curve, 8, stopped, 14, quarter), 0, 2, -3, 0, -3 * 7 + 5, 2 * 6 + 1, 3, 2, 0, 0);
+    RETURNS(BEAMNETTLE_NONE, upright(curve, 9, stopped, 14, quarter));
+    RETURNS(BEAMNETTLE_NONE, upright(CIRCLE_VERBS, 5, CIRCLE, CIRCLE_FLOATS, quarter));
+    RETURNS(BEAMNETTLE_NONE, upright(TAB_VERBS, 7, TAB_INSIDE, TAB_FLOATS, quarter));
     RETURNS(BEAMNETTLE_NONE, upright(verbs, 9, corners, 8, quarter));
     RETURNS(BEAMNETTLE_NONE, upright(verbs, 5, corners, 8, leaning));
     RETURNS(BEAMNETTLE_BUFFER_TOO_SHORT,
@@ -507,8 +649,9 @@ static void filling_upright(void) {
     RETURNS(BEAMNETTLE_BUFFER_TOO_SHORT,
             beamnettle_upright_rect(many, 257, corners, 8, quarter, FRAME, out, BOX - 1));
     RETURNS(BEAMNETTLE_TOO_MANY_VERBS, upright(many, 257, corners, 8, endless));
-    RETURNS(BEAMNETTLE_CURVE_VERB, upright(curve, 3, corners, 8, endless));
+    RETURNS(BEAMNETTLE_UNKNOWN_VERB, upright(curve, 10, corners, 8, endless));
     RETURNS(BEAMNETTLE_UNKNOWN_VERB, upright(unknown, 2, corners, 8, endless));
+    RETURNS(BEAMNETTLE_POSITIONS_MISMATCH, upright(curve, 5, stopped, 13, endless));
     RETURNS(BEAMNETTLE_POSITIONS_MISMATCH, upright(verbs, 9, corners, 7, endless));
     RETURNS(BEAMNETTLE_NUMBER_OUT_OF_RANGE, upright(verbs, 5, far, 8, quarter));
     RETURNS(BEAMNETTLE_NUMBER_OUT_OF_RANGE, upright(verbs, 9, corners, 8, endless));
@@ -641,6 +784,11 @@ static void nothing(void) {
     CHECK(beamnettle_read_pgm(PICTURE, PICTURE_LENGTH, NULL, 0, NULL, 0) == BEAMNETTLE_BUFFER_TOO_SHORT);
     RETURNS(BEAMNETTLE_NONE, beamnettle_fit(NULL, 0, NULL, 0, out, BOX));
     CHECK(beamnettle_fit(NULL, 0, NULL, 0, NULL, 0) == BEAMNETTLE_BUFFER_TOO_SHORT);
+    RETURNS(BEAMNETTLE_NONE, beamnettle_fit_outline(NULL, 0, NULL, 0, out, OUTLINE));
+    CHECK(beamnettle_fit_outline(NULL, 0, NULL, 0, NULL, 0) == BEAMNETTLE_BUFFER_TOO_SHORT);
+    RETURNS(BEAMNETTLE_NONE, beamnettle_fit_with_cut(NULL, 0, NULL, 0, out, CUT_OUTLINE));
+    CHECK(beamnettle_fit_with_cut(NULL, 0, NULL, 0, NULL, 0) == BEAMNETTLE_BUFFER_TOO_SHORT);
+    CHECK(beamnettle_fit_with_cut(TAB_VERBS, 7, TAB_INSIDE, TAB_FLOATS, NULL, 0) == BEAMNETTLE_BUFFER_TOO_SHORT);
     CHECK(beamnettle_transformed(NULL, 0, NULL, 0, NULL, 0) == BEAMNETTLE_BUFFER_TOO_SHORT);
     CHECK(beamnettle_intersection(NULL, 0, NULL, 0, 1, NULL, 0) == BEAMNETTLE_BUFFER_TOO_SHORT);
     CHECK(beamnettle_rect_intersection(NULL, 0, NULL, 0, NULL, 0) == BEAMNETTLE_BUFFER_TOO_SHORT);
@@ -666,6 +814,10 @@ int main(void) {
     reading_pgm();
     refusing_pgm();
     fitting();
+    rounding();
+    cutting();
+    refusing_outlines();
+    most_curves();
     transforming();
     sharing();
     covering();

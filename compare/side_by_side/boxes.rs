@@ -1,5 +1,5 @@
 //! Random and hostile calls on boxes.
-use crate::{call::Call, random::Random, scissors, touches};
+use crate::{call::Call, curves, random::Random, scissors, touches};
 use femtovg::calls::{self, Box10, Coverage11, Frame};
 
 pub const LIMIT: f32 = 1_048_576.0;
@@ -211,6 +211,12 @@ fn outline(random: &mut Random) -> (Vec<u8>, Vec<f32>) {
     (verbs, corners.concat())
 }
 
+/// How many floats verbs take.
+pub fn floats_of(verbs: &[u8]) -> usize {
+    let floats = |verb: &u8| [2, 2, 6].get(*verb as usize).copied().unwrap_or(0);
+    verbs.iter().map(floats).sum()
+}
+
 pub fn spoil(random: &mut Random, verbs: &mut Vec<u8>, positions: &mut Vec<f32>) {
     let at = random.below(verbs.len() + 1);
     match random.below(8) {
@@ -220,8 +226,9 @@ pub fn spoil(random: &mut Random, verbs: &mut Vec<u8>, positions: &mut Vec<f32>)
         3 => positions.truncate(positions.len().saturating_sub(1)),
         4 => verbs.extend(std::iter::repeat(5).take(250 + random.below(8))),
         5 => {
-            verbs.push(random.pick(&[0, 1]));
-            positions.extend([number(random), number(random)]);
+            let verb = random.pick(&[0, 1, 2]);
+            verbs.push(verb);
+            positions.extend((0..floats_of(&[verb])).map(|_| number(random)));
         }
         6 if !positions.is_empty() => {
             let at = random.below(positions.len());
@@ -231,11 +238,7 @@ pub fn spoil(random: &mut Random, verbs: &mut Vec<u8>, positions: &mut Vec<f32>)
             *verbs = (0..random.below(12))
                 .map(|_| random.below(7) as u8)
                 .collect();
-            let needed: usize = verbs
-                .iter()
-                .map(|verb| [2, 2, 6].get(*verb as usize).copied().unwrap_or(0))
-                .sum();
-            *positions = (0..needed).map(|_| number(random)).collect();
+            *positions = (0..floats_of(verbs)).map(|_| number(random)).collect();
         }
     }
 }
@@ -251,7 +254,7 @@ pub fn call(random: &mut Random) -> Call {
             for _ in 0..random.pick(&[0, 0, 1, 2]) {
                 spoil(random, &mut verbs, &mut positions);
             }
-            Call::Fit { verbs, positions }
+            curves::fitting(random, verbs, positions)
         }
         2 => Call::Transformed {
             one,

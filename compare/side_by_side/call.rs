@@ -4,11 +4,19 @@ use crate::{
     library,
     random::Random,
 };
-use femtovg::calls::{self, Bounds4, Box10, Coverage11, Fill, Frame};
+use femtovg::calls::{self, Bounds4, Box10, Coverage11, Fill, Fitted, Frame};
 use std::fmt;
 
 pub enum Call {
     Fit {
+        verbs: Vec<u8>,
+        positions: Vec<f32>,
+    },
+    FitOutline {
+        verbs: Vec<u8>,
+        positions: Vec<f32>,
+    },
+    FitWithCut {
         verbs: Vec<u8>,
         positions: Vec<f32>,
     },
@@ -82,17 +90,13 @@ pub enum Call {
 impl fmt::Display for Call {
     fn fmt(&self, f: &mut fmt::Formatter) -> fmt::Result {
         write!(f, "{}", self.kind())?;
-        match self {
-            Call::Fit { verbs, positions }
-            | Call::UprightRect {
-                verbs, positions, ..
-            } => {
-                write!(f, " {}", verbs.len())?;
-                verbs.iter().try_for_each(|verb| write!(f, " {verb}"))?;
-                write!(f, " {}", positions.len())?;
-            }
-            Call::Touch { boxes, .. } => write!(f, " {}", boxes.len())?,
-            _ => {}
+        if let Some((verbs, positions)) = self.outline() {
+            write!(f, " {}", verbs.len())?;
+            verbs.iter().try_for_each(|verb| write!(f, " {verb}"))?;
+            write!(f, " {}", positions.len())?;
+        }
+        if let Call::Touch { boxes, .. } = self {
+            write!(f, " {}", boxes.len())?;
         }
         write!(f, "{}", Floats(&self.floats()))
     }
@@ -102,6 +106,8 @@ impl Call {
     pub fn kind(&self) -> &'static str {
         match self {
             Call::Fit { .. } => "fit",
+            Call::FitOutline { .. } => "fit_outline",
+            Call::FitWithCut { .. } => "fit_with_cut",
             Call::Transformed { .. } => "transformed",
             Call::Intersection { .. } => "intersection",
             Call::RectIntersection { .. } => "rect_intersection",
@@ -120,10 +126,25 @@ impl Call {
         }
     }
 
+    /// The verbs and positions of a call on an outline.
+    pub fn outline(&self) -> Option<(&[u8], &[f32])> {
+        match self {
+            Call::Fit { verbs, positions }
+            | Call::FitOutline { verbs, positions }
+            | Call::FitWithCut { verbs, positions }
+            | Call::UprightRect {
+                verbs, positions, ..
+            } => Some((verbs, positions)),
+            _ => None,
+        }
+    }
+
     /// Its floats, in the order in which they stand in a line.
     fn floats(&self) -> Vec<f32> {
         match self {
-            Call::Fit { positions, .. } => positions.clone(),
+            Call::Fit { positions, .. }
+            | Call::FitOutline { positions, .. }
+            | Call::FitWithCut { positions, .. } => positions.clone(),
             Call::UprightRect {
                 positions, frame, ..
             } => [&positions[..], frame].concat(),
@@ -154,6 +175,8 @@ impl Call {
         let lending = Lending(random);
         match self {
             Call::Fit { verbs, positions } => fit(lending, verbs, positions),
+            Call::FitOutline { verbs, positions } => fit_outline(lending, verbs, positions),
+            Call::FitWithCut { verbs, positions } => fit_with_cut(lending, verbs, positions),
             Call::Transformed { one, frame } => transformed(lending, one, frame),
             Call::Intersection { one, two, fringe } => intersection(lending, one, two, *fringe),
             Call::RectIntersection { one, two } => rect_intersection(lending, one, two),
@@ -190,6 +213,27 @@ fn fit(lending: Lending, verbs: &[u8], positions: &[f32]) -> Compared {
     let old = done(calls::fit(verbs, positions));
     lending.written(old, [10], [], |[], [out]| {
         library::fit(verbs, positions, out)
+    })
+}
+
+fn fit_outline(lending: Lending, verbs: &[u8], positions: &[f32]) -> Compared {
+    let old = done(calls::fit_outline(verbs, positions));
+    lending.written(old, [11], [], |[], [out]| {
+        library::fit_outline(verbs, positions, out)
+    })
+}
+
+/// A whole outline writes 11 of the 21 floats that are lent for it.
+fn fit_with_cut(lending: Lending, verbs: &[u8], positions: &[f32]) -> Compared {
+    let old = answer(
+        calls::fit_with_cut(verbs, positions),
+        |fitted| match fitted {
+            Fitted::Whole(floats) => (library::DONE, [floats.to_vec()]),
+            Fitted::Cut(floats) => (library::CUT, [floats.to_vec()]),
+        },
+    );
+    lending.written(old, [21], [], |[], [out]| {
+        library::fit_with_cut(verbs, positions, out)
     })
 }
 

@@ -74,10 +74,11 @@ impl Lending<'_> {
         (parts, short)
     }
 
-    /// What is lent for an answer of so many floats.
+    /// What is lent for an answer of so many floats: at times one too few, or fewer.
     fn out(&mut self, needed: usize) -> Lent<f32> {
+        let fewer = self.0.below(needed);
         let length = match self.0.below(16) {
-            0 => self.0.below(needed),
+            0 => self.0.pick(&[fewer, needed - 1]),
             1..=3 => needed + self.0.below(9),
             _ => needed,
         };

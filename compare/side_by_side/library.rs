@@ -8,6 +8,7 @@ pub const NO: u8 = 34;
 pub const NO_FRAME: u8 = 35;
 pub const SHARED: u8 = 36;
 pub const COVERED: u8 = 37;
+pub const CUT: u8 = 38;
 /// The number of place 0 of a touch list.
 pub const FIRST_PLACE: u32 = 256;
 /// What a file's length is added to.
@@ -57,6 +58,22 @@ mod c {
             size_length: usize,
         ) -> u8;
         pub fn beamnettle_fit(
+            verbs: *const u8,
+            verbs_length: usize,
+            positions: *const f32,
+            positions_length: usize,
+            out: *mut f32,
+            out_length: usize,
+        ) -> u8;
+        pub fn beamnettle_fit_outline(
+            verbs: *const u8,
+            verbs_length: usize,
+            positions: *const f32,
+            positions_length: usize,
+            out: *mut f32,
+            out_length: usize,
+        ) -> u8;
+        pub fn beamnettle_fit_with_cut(
             verbs: *const u8,
             verbs_length: usize,
             positions: *const f32,
@@ -262,6 +279,32 @@ pub fn read_pgm(file: &[u8], mask: &mut [u8], size: &mut [usize]) -> u8 {
 pub fn fit(verbs: &[u8], positions: &[f32], out: &mut [f32]) -> u8 {
     unsafe {
         c::beamnettle_fit(
+            verbs.as_ptr(),
+            verbs.len(),
+            positions.as_ptr(),
+            positions.len(),
+            out.as_mut_ptr(),
+            out.len(),
+        )
+    }
+}
+
+pub fn fit_outline(verbs: &[u8], positions: &[f32], out: &mut [f32]) -> u8 {
+    unsafe {
+        c::beamnettle_fit_outline(
+            verbs.as_ptr(),
+            verbs.len(),
+            positions.as_ptr(),
+            positions.len(),
+            out.as_mut_ptr(),
+            out.len(),
+        )
+    }
+}
+
+pub fn fit_with_cut(verbs: &[u8], positions: &[f32], out: &mut [f32]) -> u8 {
+    unsafe {
+        c::beamnettle_fit_with_cut(
             verbs.as_ptr(),
             verbs.len(),
             positions.as_ptr(),

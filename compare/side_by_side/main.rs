@@ -2,11 +2,12 @@
 //! numbers, masks byte by byte, floats by their bits (every NaN one value), lent memory and guards.
 //! Small chains of drawings and layings-on are also held to document 01's reckoner. PGM files, which
 //! femtovg has not, are held to a second reader and writer.
-//! side_by_side [SEED] [SECONDS]
+//! side_by_side [SEED] [SECONDS] [curves]: with `curves` every call is one on an outline with curves.
 mod boxes;
 mod call;
 mod chain;
 mod chains;
+mod curves;
 mod drawings;
 mod fraction;
 mod holds;
@@ -19,10 +20,13 @@ mod pgm;
 mod pgm_files;
 mod random;
 mod reckoner;
+#[path = "../outlines/ring.rs"]
+mod ring;
 mod scissors;
 mod touches;
 mod whole;
 
+use call::Call;
 use chain::Chain;
 use femtovg::calls::Drawing;
 use random::Random;
@@ -33,13 +37,14 @@ use std::{
 };
 
 /// The numbers that are shown beside done, as which a place or a length counts, and the causes.
-const OUTCOMES: [(u8, &str); 6] = [
+const OUTCOMES: [(u8, &str); 7] = [
     (library::NONE, "none"),
     (library::YES, "yes"),
     (library::NO, "no"),
     (library::NO_FRAME, "no frame"),
     (library::SHARED, "shared"),
     (library::COVERED, "covered"),
+    (library::CUT, "cut"),
 ];
 
 /// A run ends when so many are found.
@@ -53,6 +58,7 @@ struct Counts {
     differ: u64,
     chains: u64,
     touches: touches::Counts,
+    curves: curves::Counts,
     files: pgm::Counts,
     closeness: Closeness,
 }
@@ -75,7 +81,9 @@ impl Counts {
     }
 
     fn show(&self) {
-        let causes = (1..=15).map(|number| (number, number.to_string()));
+        // 10 is given to nothing
+        let causes = (1..=15).filter(|number| *number != 10);
+        let causes = causes.map(|number| (number, number.to_string()));
         let columns: Vec<(u8, String)> = std::iter::once((library::DONE, "done".into()))
             .chain(causes)
             .chain(OUTCOMES.map(|(number, name)| (number, name.into())))
@@ -99,6 +107,7 @@ impl Counts {
         } = self.closeness;
         println!("chains: {}", self.chains);
         self.touches.show();
+        self.curves.show();
         self.files.show();
         println!(
             "largest share of the allowed difference: {largest:.4} (done drawings {drawings}, layings {layings}, cells {cells})"
@@ -122,11 +131,11 @@ fn shrunk(mut chain: Chain, mut difference: String) -> (Chain, String) {
     }
 }
 
-fn put_box_call(random: &mut Random, counts: &mut Counts) {
-    let call = boxes::call(random);
+fn put_box_call(call: Call, random: &mut Random, counts: &mut Counts) {
     match call.compare(random) {
         Ok(number) => {
             counts.touches.count(&call);
+            counts.curves.count(&call);
             counts.answer(call.kind(), number);
         }
         Err(difference) => counts.difference(&difference, &call),
@@ -165,33 +174,46 @@ fn put_chain(chain: Chain, drawing: &mut Drawing, random: &mut Random, counts: &
     }
 }
 
-/// A call on boxes, one on a PGM file, a lone drawing or a chain.
+/// A call on boxes, one on an outline with curves, one on a PGM file, a lone drawing or a chain.
 fn put(drawing: &mut Drawing, random: &mut Random, counts: &mut Counts) {
-    let chain = match random.below(800) {
+    let chain = match random.below(900) {
         turn @ 0..=15 => {
             counts.chains += 1;
             chains::chain(random, turn < 8)
         }
         16..=99 => drawings::drawing(random),
         100..=199 => return put_pgm_call(pgm_files::call(random), random, counts),
-        _ => return put_box_call(random, counts),
+        200..=299 => return put_box_call(curves::call(random), random, counts),
+        _ => return put_box_call(boxes::call(random), random, counts),
     };
     put_chain(chain, drawing, random, counts);
 }
 
 fn main() {
-    let mut arguments = std::env::args()
-        .skip(1)
-        .map(|word| word.parse::<u64>().expect("a whole number"));
-    let seed = arguments.next().unwrap_or(1);
-    let limit = Duration::from_secs(arguments.next().unwrap_or(60));
+    let arguments: Vec<String> = std::env::args().skip(1).collect();
+    let number = |at: usize, or: u64| {
+        let word = arguments.get(at);
+        word.map_or(or, |word| word.parse().expect("a whole number"))
+    };
+    let (seed, limit) = (number(0, 1), Duration::from_secs(number(1, 60)));
+    let only_curves = match arguments.get(2).map(String::as_str) {
+        None => false,
+        Some("curves") => true,
+        Some(word) => panic!("'{word}' is not 'curves'"),
+    };
     let (mut random, mut drawing) = (Random::new(seed), Drawing::default());
     let mut counts = Counts::default();
     let start = Instant::now();
     let mut shown = start;
-    put_sweep(&mut random, &mut counts);
+    if !only_curves {
+        put_sweep(&mut random, &mut counts);
+    }
     while start.elapsed() < limit && counts.differ < MOST_DIFFERENCES {
-        put(&mut drawing, &mut random, &mut counts);
+        if only_curves {
+            put_box_call(curves::call(&mut random), &mut random, &mut counts);
+        } else {
+            put(&mut drawing, &mut random, &mut counts);
+        }
         if shown.elapsed() > Duration::from_secs(5) {
             shown = Instant::now();
             let Counts {

@@ -213,10 +213,8 @@ fn turned_back(random: &mut Random, angle: f32) -> Frame {
     [a, b, -sin, cos, tame(random), tame(random)]
 }
 
-fn upright_rect(random: &mut Random) -> Call {
-    let turn = random.float(-3.0, 3.0);
-    let angle = random.pick(&[0.0, 0.0, turn]);
-    let (mut verbs, mut positions) = outline(random, angle);
+/// A frame for a rectangle that is turned by an angle, at times with a fault.
+pub fn through(random: &mut Random, angle: f32) -> Frame {
     let mut through = match random.below(10) {
         0 => frame(random),
         1 | 2 => random.pick(&FLAT),
@@ -229,13 +227,21 @@ fn upright_rect(random: &mut Random) -> Call {
     if random.one_in(10) {
         through[random.below(6)] = number(random);
     }
+    through
+}
+
+fn upright_rect(random: &mut Random) -> Call {
+    let turn = random.float(-3.0, 3.0);
+    let angle = random.pick(&[0.0, 0.0, turn]);
+    let (mut verbs, mut positions) = outline(random, angle);
+    let frame = through(random, angle);
     if random.one_in(5) {
         spoil(random, &mut verbs, &mut positions);
     }
     Call::UprightRect {
         verbs,
         positions,
-        frame: through,
+        frame,
     }
 }
 

@@ -5,11 +5,15 @@
 mod library;
 #[path = "../netpbm/pgm.rs"]
 mod netpbm;
+#[path = "../outlines/ring.rs"]
+#[allow(dead_code)]
+mod ring;
 
 use femtovg::{
-    calls::{self, Box10},
+    calls::{self, Box10, Fitted},
     plain::{Covering, Key, Outline, Scratch, Shape},
 };
+use ring::{Ring, KAPPA};
 use std::{
     f64::consts::TAU,
     hint::black_box,
@@ -497,12 +501,53 @@ fn touches() {
     }
 }
 
+// ---- outlines with curves
+
+/// Times a call on a ring, which writes so many floats, the same as the Rust's.
+fn ring(
+    name: &str,
+    ring: &Ring,
+    floats: usize,
+    old: impl Fn(&Outline),
+    new: impl Fn(&[u8], &[f32], &mut [f32]) -> u8,
+) {
+    let (verbs, positions) = ring.written(true);
+    let outline = Outline::new(&verbs, &positions);
+    let (number, answer) = match calls::fit_with_cut(&verbs, &positions) {
+        Ok(Some(Fitted::Whole(answer))) => (library::DONE, answer.to_vec()),
+        Ok(Some(Fitted::Cut(answer))) => (library::CUT, answer.to_vec()),
+        _ => panic!("{name}: no box"),
+    };
+    let mut out = [0.0; 21];
+    assert_eq!(new(&verbs, &positions, &mut out), number);
+    assert!(out[..floats] == answer[..floats], "{name}: answers differ");
+    line(name, &mut || old(&outline), &mut || {
+        black_box(new(black_box(&verbs), &positions, &mut out));
+    });
+}
+
+fn rings() {
+    let (extent, radii) = ([40.0, 30.0], [6.0, 5.0]);
+    let rounded = Ring::rounded(extent, [radii; 4], KAPPA);
+    let circle = Ring::rounded([30.0; 2], [[30.0; 2]; 4], KAPPA);
+    let tab = Ring::rounded(extent, [[0.0; 2], [0.0; 2], radii, radii], KAPPA);
+    let (old, new) = (Outline::fit, library::fit);
+    ring("fit, a rounded rectangle", &rounded, 10, old, new);
+    ring("fit, a circle", &circle, 10, old, new);
+    let (old, new) = (Outline::fit_outline, library::fit_outline);
+    ring("fit_outline, a rounded rectangle", &rounded, 11, old, new);
+    ring("fit_outline, a circle", &circle, 11, old, new);
+    let (old, new) = (Outline::fit_with_cut, library::fit_with_cut);
+    ring("fit_with_cut, a tab", &tab, 21, old, new);
+}
+
 fn main() {
     println!("| call | old | new | new / old |\n|---|---|---|---|");
     drawings();
     layings();
     files();
     boxes();
+    rings();
     scissors();
     upright_rect();
     holds();

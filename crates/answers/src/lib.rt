@@ -7,6 +7,8 @@ use device_bounds::MaybeBounds;
 use fault::Fault;
 use fill::FillAnswer;
 use fill::RectFill;
+use fit::CutAnswer;
+use fit::OutlineAnswer;
 use geometry::Bounds;
 use libc::STDOUT_FILENO;
 use mask::Outcome;
@@ -143,6 +145,41 @@ pub fn filled(answer: FillAnswer) {
         FillAnswer::Fill(fill) => fill_line(fill),
         FillAnswer::NoBox => no_box(),
         FillAnswer::Refused(fault) => refused(fault),
+    }
+}
+
+// ---- outlines
+
+// A line that names what an outline is: its box and strays.
+fn outline_line(name: &[u8], b: RoundedBox, strays: f32) {
+    writing::write(name);
+    ten_floats(b);
+    writing::write_float(strays);
+    writing::write(b"\n");
+}
+
+fn cut_line(b: RoundedBox, strays: f32, cut: RoundedBox) {
+    writing::write(b"cut");
+    ten_floats(b);
+    writing::write_float(strays);
+    ten_floats(cut);
+    writing::write(b"\n");
+}
+
+pub fn outlined(answer: OutlineAnswer) {
+    match answer {
+        OutlineAnswer::Outline(b, strays) => outline_line(b"outline", b, strays),
+        OutlineAnswer::NoBox => no_box(),
+        OutlineAnswer::Refused(fault) => refused(fault),
+    }
+}
+
+pub fn cut(answer: CutAnswer) {
+    match answer {
+        CutAnswer::Whole(b, strays) => outline_line(b"whole", b, strays),
+        CutAnswer::Cut(b, strays, cut) => cut_line(b, strays, cut),
+        CutAnswer::NoBox => no_box(),
+        CutAnswer::Refused(fault) => refused(fault),
     }
 }
 

@@ -8,10 +8,11 @@ ghost use lib.ListN.{length};
 ghost use Rattle.mask.specs.Calls.{lent, outcomeNumber, drawAnswer, layAnswer};
 ghost use Rattle.touch.specs.Touch.{pointOf, touchCall};
 ghost use Rattle.boundary.specs.Answers.{after, boxHanded, coverageHanded, boundsHanded, distanceHanded, testNumber, touchNumber};
-ghost use Rattle.boundary.specs.Answers.{bothBoxHanded, bothCoverageHanded, fillHanded, writeNumber, readNumber, sizeAfter};
+ghost use Rattle.boundary.specs.Answers.{bothBoxHanded, bothCoverageHanded, fillHanded, outlineHanded, cutHanded, writeNumber, readNumber, sizeAfter};
 ghost use Rattle.pgm.specs.Calls.{maskAfterReading};
 ghost use Rattle.pgm_exports.specs.Calls.{writeLent, fileWritten, readLent};
-ghost use Rattle.box_exports.specs.Calls.{fitLent, transformedLent, intersectionLent, rectIntersectionLent, coverageLent};
+ghost use Rattle.outline_exports.specs.Calls.{fitLent, fitOutlineLent, fitWithCutLent};
+ghost use Rattle.box_exports.specs.Calls.{transformedLent, intersectionLent, rectIntersectionLent, coverageLent};
 ghost use Rattle.box_exports.specs.Calls.{boundsLent, distanceLent, parallelLent, containsLent};
 ghost use Rattle.window_exports.specs.Calls.{withScissorLent, trimmedScissorLent, rectFillLent, uprightRectLent, reachLent, holdsLent};
 ghost use Rattle.beamnettle.specs.Calls.{drawingLent, maskDrawn, floatsDrawn, countersDrawn, layingLent, maskLaid};
@@ -88,15 +89,33 @@ pub extern "C" fn beamnettle_read_pgm(file: &[u8], mask: &mut [u8], size: &mut [
     pgm_exports::read_pgm(file, mask, size)
 }
 
-// ---- boxes: crate box_exports has the calls
+// ---- outlines: crate outline_exports has the calls
 
 #[no_mangle]
 pub extern "C" fn beamnettle_fit(verbs: &[u8], positions: &[f32], out: &mut [f32]) -> u8
     ensures { λ r. ⌜ r ≡ (boxHanded (fitLent (now (verbs .entry)) (now (positions .entry)) (now (out .entry)))) .number ⌝ }
     ensures { λ _. ⌜ now (out .exit) ≡ after (boxHanded (fitLent (now (verbs .entry)) (now (positions .entry)) (now (out .entry)))) (now (out .entry)) ⌝ }
 {
-    box_exports::fit(verbs, positions, out)
+    outline_exports::fit(verbs, positions, out)
 }
+
+#[no_mangle]
+pub extern "C" fn beamnettle_fit_outline(verbs: &[u8], positions: &[f32], out: &mut [f32]) -> u8
+    ensures { λ r. ⌜ r ≡ (outlineHanded (fitOutlineLent (now (verbs .entry)) (now (positions .entry)) (now (out .entry)))) .number ⌝ }
+    ensures { λ _. ⌜ now (out .exit) ≡ after (outlineHanded (fitOutlineLent (now (verbs .entry)) (now (positions .entry)) (now (out .entry)))) (now (out .entry)) ⌝ }
+{
+    outline_exports::fit_outline(verbs, positions, out)
+}
+
+#[no_mangle]
+pub extern "C" fn beamnettle_fit_with_cut(verbs: &[u8], positions: &[f32], out: &mut [f32]) -> u8
+    ensures { λ r. ⌜ r ≡ (cutHanded (fitWithCutLent (now (verbs .entry)) (now (positions .entry)) (now (out .entry)))) .number ⌝ }
+    ensures { λ _. ⌜ now (out .exit) ≡ after (cutHanded (fitWithCutLent (now (verbs .entry)) (now (positions .entry)) (now (out .entry)))) (now (out .entry)) ⌝ }
+{
+    outline_exports::fit_with_cut(verbs, positions, out)
+}
+
+// ---- boxes: crate box_exports has the calls
 
 #[no_mangle]
 pub extern "C" fn beamnettle_transformed(b: &[f32], frame: &[f32], out: &mut [f32]) -> u8

@@ -30,12 +30,17 @@ use Rattle.fill.specs.declared.FillAnswer.{FillAnswer}
 use Rattle.fill.specs.declared.FillAnswer.the-variants as filled
 use Rattle.touch.specs.declared.TouchAnswer.{TouchAnswer}
 use Rattle.touch.specs.declared.TouchAnswer.the-variants as touched
+use Rattle.fit.specs.declared.OutlineAnswer.{OutlineAnswer}
+use Rattle.fit.specs.declared.OutlineAnswer.the-variants as outline
+use Rattle.fit.specs.declared.CutAnswer.{CutAnswer}
+use Rattle.fit.specs.declared.CutAnswer.the-variants as cutting
 use Rattle.pgm.specs.declared.WriteAnswer.{WriteAnswer}
 use Rattle.pgm.specs.declared.WriteAnswer.the-variants as write
 use Rattle.pgm.specs.declared.ReadAnswer.{ReadAnswer}
 use Rattle.pgm.specs.declared.ReadAnswer.the-variants as read
-use Rattle.boundary.specs.Outcomes.{Ordinary, done, none, yes, no, noFrame, shared, covered, counted, ordinaryNumber}
-use Rattle.boundary.specs.Answers.{boxHanded, coverageHanded, boundsHanded, distanceHanded, bothBoxHanded, fillHanded, reachHanded, testNumber, touchNumber, writeNumber, readNumber}
+use Rattle.boundary.specs.Outcomes.{Ordinary, done, none, yes, no, noFrame, shared, covered, cut, counted, ordinaryNumber}
+use Rattle.boundary.specs.Answers.{boxHanded, coverageHanded, boundsHanded, distanceHanded, bothBoxHanded, fillHanded, outlineHanded, cutHanded}
+use Rattle.boundary.specs.Answers.{reachHanded, testNumber, touchNumber, writeNumber, readNumber}
 use Rattle.boundary.specs.Numbers.{CauseExactlyWhen, NumbersApart}
 
 -- ---- outcomes
@@ -48,6 +53,7 @@ outside no low high = omega arith
 outside noFrame low high = omega arith
 outside shared low high = omega arith
 outside covered low high = omega arith
+outside cut low high = omega arith
 outside (counted k) low high = omega arith
 
 apart : (o : Ordinary) (f : Fault) → ordinaryNumber o ≡ numberOf f → ⊥
@@ -55,7 +61,7 @@ apart o f e = let least = cause-numbers .least f in let most = cause-numbers .mo
 
 -- those below what is counted, by number; then what is counted
 abbrev outcome-at : ℕ → Ordinary
-outcome-at n = getD (done ∷ []) n (getD (none ∷ yes ∷ no ∷ noFrame ∷ shared ∷ covered ∷ []) (n - 32) (counted (n - 256)))
+outcome-at n = getD (done ∷ []) n (getD (none ∷ yes ∷ no ∷ noFrame ∷ shared ∷ covered ∷ cut ∷ []) (n - 32) (counted (n - 256)))
 
 own-outcome : (o : Ordinary) → outcome-at (ordinaryNumber o) ≡ o
 own-outcome done = refl
@@ -65,11 +71,12 @@ own-outcome no = refl
 own-outcome noFrame = refl
 own-outcome shared = refl
 own-outcome covered = refl
+own-outcome cut = refl
 own-outcome (counted k) =
     let past-first : 1 ≤ 256 + k = omega arith in
-    let past-all : 6 ≤ 256 + k - 32 = omega arith in
+    let past-all : 7 ≤ 256 + k - 32 = omega arith in
     List·getD-eq-default (done ∷ []) _ past-first
-    ∙ List·getD-eq-default (none ∷ yes ∷ no ∷ noFrame ∷ shared ∷ covered ∷ []) _ past-all
+    ∙ List·getD-eq-default (none ∷ yes ∷ no ∷ noFrame ∷ shared ∷ covered ∷ cut ∷ []) _ past-all
     ∙ ap counted (omega arith)
 
 outcomes : (o p : Ordinary) → ordinaryNumber o ≡ ordinaryNumber p → o ≡ p
@@ -87,8 +94,13 @@ module _ {A : Type 0} (number : A → ℕ) (refused : Fault → A) (always : (f 
       let w = within a (omega arith) (omega arith) in
       w .1 ∙ ap refused (cause-numbers .apart (w .0) f (sym (always (w .0)) ∙ ap number (sym (w .1)) ∙ e))
 
+  never-ten : (a : A) → number a ≡ 10 → ⊥
+  never-ten a e =
+      let w = within a (omega arith) (omega arith) in
+      cause-numbers .never-ten (w .0) (sym (always (w .0)) ∙ ap number (sym (w .1)) ∙ e)
+
   told : CauseExactlyWhen number refused
-  told = record { only = only; always = always; within = within }
+  told = record { only = only; always = always; within = within; never-ten = never-ten }
 
 outcome-within : (a : Outcome) → 1 ≤ outcomeNumber a → outcomeNumber a ≤ 31 → (f : Fault) × (a ≡ drawn.Refused f)
 outcome-within drawn.Done low high = absurd (outside done low high)
@@ -123,9 +135,24 @@ fill-within (filled.Fill (fill.Covered b)) low high = absurd (outside covered lo
 fill-within filled.NoBox low high = absurd (outside none low high)
 fill-within (filled.Refused f) low high = (f, refl)
 
+outline-within : (a : OutlineAnswer) → 1 ≤ (outlineHanded a) .number → (outlineHanded a) .number ≤ 31 → (f : Fault) × (a ≡ outline.Refused f)
+outline-within (outline.Outline b strays) low high = absurd (outside done low high)
+outline-within outline.NoBox low high = absurd (outside none low high)
+outline-within (outline.Refused f) low high = (f, refl)
+
+cut-within : (a : CutAnswer) → 1 ≤ (cutHanded a) .number → (cutHanded a) .number ≤ 31 → (f : Fault) × (a ≡ cutting.Refused f)
+cut-within (cutting.Whole b strays) low high = absurd (outside done low high)
+cut-within (cutting.Cut b strays by) low high = absurd (outside cut low high)
+cut-within cutting.NoBox low high = absurd (outside none low high)
+cut-within (cutting.Refused f) low high = (f, refl)
+
 never-refused : (a : MaybeBounds) (f : Fault) → (reachHanded a) .number ≡ numberOf f → ⊥
 never-refused (reached.Bounds b) f e = apart done f e
 never-refused reached.Everywhere f e = apart none f e
+
+reach-never-ten : (a : MaybeBounds) → (reachHanded a) .number ≡ 10 → ⊥
+reach-never-ten (reached.Bounds b) e = omega arith
+reach-never-ten reached.Everywhere e = omega arith
 
 test-within : (a : TestAnswer) → 1 ≤ testNumber a → testNumber a ≤ 31 → (f : Fault) × (a ≡ test.Refused f)
 test-within (test.Done true) low high = absurd (outside yes low high)
@@ -157,7 +184,10 @@ numbers-apart = record {
   distance = told (λ a. (distanceHanded a) .number) distance.Refused (λ f. refl) distance-within;
   both = told (λ a. (bothBoxHanded a) .number) scissor.Refused (λ f. refl) both-within;
   fill = told (λ a. (fillHanded a) .number) filled.Refused (λ f. refl) fill-within;
+  outline = told (λ a. (outlineHanded a) .number) outline.Refused (λ f. refl) outline-within;
+  cut = told (λ a. (cutHanded a) .number) cutting.Refused (λ f. refl) cut-within;
   reach = never-refused;
+  reach-never-ten = reach-never-ten;
   test = told testNumber test.Refused (λ f. refl) test-within;
   touch = told touchNumber touched.Refused (λ f. refl) touch-within;
   write = told writeNumber write.Refused (λ f. refl) write-within;

@@ -28,12 +28,16 @@ use Rattle.fill.specs.declared.RectFill.{RectFill}
 use Rattle.fill.specs.declared.RectFill.the-variants as fill
 use Rattle.fill.specs.declared.FillAnswer.{FillAnswer}
 use Rattle.fill.specs.declared.FillAnswer.the-variants as filled
+use Rattle.fit.specs.declared.OutlineAnswer.{OutlineAnswer}
+use Rattle.fit.specs.declared.OutlineAnswer.the-variants as outline
+use Rattle.fit.specs.declared.CutAnswer.{CutAnswer}
+use Rattle.fit.specs.declared.CutAnswer.the-variants as cutting
 use Rattle.pgm.specs.declared.WriteAnswer.{WriteAnswer}
 use Rattle.pgm.specs.declared.WriteAnswer.the-variants as write
 use Rattle.pgm.specs.declared.ReadAnswer.{ReadAnswer}
 use Rattle.pgm.specs.declared.ReadAnswer.the-variants as read
-use Rattle.lent_floats.specs.Lent.{boxFloats, coverageFloats, boundsFloats, over}
-use Rattle.boundary.specs.Outcomes.{Ordinary, ordinaryNumber, done, none, yes, no, noFrame, shared, covered, counted}
+use Rattle.lent_floats.specs.Lent.{boxFloats, coverageFloats, boundsFloats, outlineFloats, cutOutlineFloats, over}
+use Rattle.boundary.specs.Outcomes.{Ordinary, ordinaryNumber, done, none, yes, no, noFrame, shared, covered, cut, counted}
 
 pub record Handed : Type 0 where
   pub number : ℕ
@@ -98,6 +102,18 @@ abbrev pub fillHanded : FillAnswer → Handed
 fillHanded (filled.Fill f) = rectFillHanded f
 fillHanded filled.NoBox = plain none
 fillHanded (filled.Refused f) = turnedAway f
+
+-- 'a box, its strays, and the cut box where one side is square'
+abbrev pub outlineHanded : OutlineAnswer → Handed
+outlineHanded (outline.Outline b strays) = written (outlineFloats b strays)
+outlineHanded outline.NoBox = plain none
+outlineHanded (outline.Refused f) = turnedAway f
+
+abbrev pub cutHanded : CutAnswer → Handed
+cutHanded (cutting.Whole b strays) = written (outlineFloats b strays)
+cutHanded (cutting.Cut b strays by) = writtenAs cut (cutOutlineFloats b strays by)
+cutHanded cutting.NoBox = plain none
+cutHanded (cutting.Refused f) = turnedAway f
 
 -- a coverage of one everywhere has no bounds
 abbrev pub reachHanded : MaybeBounds → Handed

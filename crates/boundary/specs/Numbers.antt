@@ -15,17 +15,22 @@ use Rattle.touch.specs.declared.TouchAnswer.the-variants as touched
 use Rattle.device_bounds.specs.declared.MaybeBounds.{MaybeBounds}
 use Rattle.scissor.specs.declared.ScissorAnswer.the-variants as scissor
 use Rattle.fill.specs.declared.FillAnswer.the-variants as filled
+use Rattle.fit.specs.declared.OutlineAnswer.the-variants as outline
+use Rattle.fit.specs.declared.CutAnswer.the-variants as cut
 use Rattle.pgm.specs.declared.WriteAnswer.the-variants as write
 use Rattle.pgm.specs.declared.ReadAnswer.the-variants as read
 use Rattle.boundary.specs.Outcomes.{Ordinary, ordinaryNumber}
-use Rattle.boundary.specs.Answers.{boxHanded, coverageHanded, boundsHanded, distanceHanded, bothBoxHanded, fillHanded, reachHanded, testNumber, touchNumber, writeNumber, readNumber}
+use Rattle.boundary.specs.Answers.{boxHanded, coverageHanded, boundsHanded, distanceHanded, bothBoxHanded, fillHanded, outlineHanded, cutHanded}
+use Rattle.boundary.specs.Answers.{reachHanded, testNumber, touchNumber, writeNumber, readNumber}
 
 -- of answers, a way to number them, and those that refuse: a number is a cause's exactly when the answer is the refusal
--- with that cause; from 1 to 31 there is nothing else
+-- with that cause; from 1 to 31 there is nothing else; and no number is 10. Document 02, change 5: 'Number 10 no longer
+-- occurs, and that is shown'
 pub record CauseExactlyWhen {A : Type 0} (number : A → ℕ) (refused : Fault → A) : Type 0 where
   pub only : (a : A) (f : Fault) → number a ≡ numberOf f → a ≡ refused f
   pub always : (f : Fault) → number (refused f) ≡ numberOf f
   pub within : (a : A) → 1 ≤ number a → number a ≤ 31 → (f : Fault) × (a ≡ refused f)
+  pub never-ten : (a : A) → number a ≡ 10 → ⊥
 
 pub record NumbersApart : Type 0 where
   -- every cause has a number of its own, from 1 to 31 (fault/specs/Number.antt)
@@ -41,8 +46,11 @@ pub record NumbersApart : Type 0 where
   pub distance : CauseExactlyWhen (λ a. (distanceHanded a) .number) distance.Refused
   pub both : CauseExactlyWhen (λ a. (bothBoxHanded a) .number) scissor.Refused
   pub fill : CauseExactlyWhen (λ a. (fillHanded a) .number) filled.Refused
+  pub outline : CauseExactlyWhen (λ a. (outlineHanded a) .number) outline.Refused
+  pub cut : CauseExactlyWhen (λ a. (cutHanded a) .number) cut.Refused
   -- `reach` is never refused
   pub reach : (a : MaybeBounds) (f : Fault) → (reachHanded a) .number ≡ numberOf f → ⊥
+  pub reach-never-ten : (a : MaybeBounds) → (reachHanded a) .number ≡ 10 → ⊥
   pub test : CauseExactlyWhen testNumber test.Refused
   pub touch : CauseExactlyWhen touchNumber touched.Refused
   pub write : CauseExactlyWhen writeNumber write.Refused

@@ -3,9 +3,9 @@
 use Prim.Native.Nat.{ℕ, _+_}
 
 -- done, with nothing more to say; none: "no box", no coverage, or no bounds; yes and no; "no frame"; `RectFill`'s two,
--- 'a shared box or a covered one'; what is counted: the place of a touch, from 0, or the length of a file
+-- 'a shared box or a covered one'; cut: a box with 'the cut box where one side is square'; what is counted: the place of a touch, from 0, or the length of a file
 pub data Ordinary : Type 0 where
-  done none yes no noFrame shared covered : Ordinary
+  done none yes no noFrame shared covered cut : Ordinary
   counted : ℕ → Ordinary
 
 abbrev pub ordinaryNumber : Ordinary → ℕ
@@ -16,4 +16,5 @@ ordinaryNumber no = 34
 ordinaryNumber noFrame = 35
 ordinaryNumber shared = 36
 ordinaryNumber covered = 37
+ordinaryNumber cut = 38
 ordinaryNumber (counted k) = 256 + k

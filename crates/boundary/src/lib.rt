@@ -5,6 +5,8 @@ use covering::CoverageAnswer;
 use device_bounds::MaybeBounds;
 use fill::FillAnswer;
 use fill::RectFill;
+use fit::CutAnswer;
+use fit::OutlineAnswer;
 use mask::Outcome;
 use pgm::ReadAnswer;
 use pgm::WriteAnswer;
@@ -18,7 +20,7 @@ ghost use Prim.Native.Nat.{_≤_};
 ghost use lib.ListN.{length};
 ghost use Rattle.mask.specs.Calls.{outcomeNumber};
 ghost use Rattle.boundary.specs.Answers.{after, boxHanded, coverageHanded, boundsHanded, distanceHanded};
-ghost use Rattle.boundary.specs.Answers.{bothBoxHanded, bothCoverageHanded, rectFillHanded, fillHanded, reachHanded, testNumber, touchNumber};
+ghost use Rattle.boundary.specs.Answers.{bothBoxHanded, bothCoverageHanded, rectFillHanded, fillHanded, outlineHanded, cutHanded, reachHanded, testNumber, touchNumber};
 ghost use Rattle.boundary.specs.Answers.{writeNumber, readNumber, sizeAfter};
 
 const DONE: u8 = 0;
@@ -34,6 +36,8 @@ const NO_FRAME: u32 = 35;
 const SHARED: u8 = 36;
 
 const COVERED: u8 = 37;
+
+const CUT: u8 = 38;
 
 // What is counted, a place or a length, is answered above all other numbers.
 const FIRST_COUNTED: u32 = 256;
@@ -142,6 +146,40 @@ pub fn hand_fill(answer: FillAnswer, out: &mut [f32]) -> u8
         FillAnswer::Fill(fill) => hand_rect_fill(fill, out),
         FillAnswer::NoBox => NONE,
         FillAnswer::Refused(fault) => fault.number(),
+    }
+}
+
+pub fn hand_outline(answer: OutlineAnswer, out: &mut [f32]) -> u8
+    requires { ⌜ 11 ≤ length (now out) ⌝ }
+    ensures { λ r. ⌜ r ≡ (outlineHanded answer) .number ⌝ }
+    ensures { λ _. ⌜ now (out .exit) ≡ after (outlineHanded answer) (now (out .entry)) ⌝ }
+{
+    match answer {
+        OutlineAnswer::Outline(b, strays) => {
+            lent_floats::put_outline(out, b, strays);
+            DONE
+        }
+        OutlineAnswer::NoBox => NONE,
+        OutlineAnswer::Refused(fault) => fault.number(),
+    }
+}
+
+pub fn hand_cut(answer: CutAnswer, out: &mut [f32]) -> u8
+    requires { ⌜ 21 ≤ length (now out) ⌝ }
+    ensures { λ r. ⌜ r ≡ (cutHanded answer) .number ⌝ }
+    ensures { λ _. ⌜ now (out .exit) ≡ after (cutHanded answer) (now (out .entry)) ⌝ }
+{
+    match answer {
+        CutAnswer::Whole(b, strays) => {
+            lent_floats::put_outline(out, b, strays);
+            DONE
+        }
+        CutAnswer::Cut(b, strays, cut) => {
+            lent_floats::put_cut_outline(out, b, strays, cut);
+            CUT
+        }
+        CutAnswer::NoBox => NONE,
+        CutAnswer::Refused(fault) => fault.number(),
     }
 }
 

@@ -1,6 +1,5 @@
 -- The box calls on lent slices, outright: what each answers, from what is lent to it. What an answer hands over, its
 -- number and its floats: boundary/specs/Answers.antt. Definitions only.
-use Prim.Native.Nat.{ℕ}
 use mathlib.Core.Bool.{cond}
 use mathlib.Core.List.{List}
 use lib.Dec.{ltb}
@@ -23,14 +22,10 @@ use Rattle.covering.specs.Calls.{coverageCall}
 use Rattle.beside.specs.Calls.{parallelCall}
 use Rattle.sides.specs.Calls.{rectIntersectionCall}
 use Rattle.overlap.specs.Calls.{intersectionCall}
-use Rattle.fit.specs.Fit.{fitCall}
 use Rattle.lent_floats.specs.Lent.{frameIn, boxIn, coverageIn}
 
 -- Where fewer are lent than a box, a frame, a coverage or an answer takes, number 4,
 -- before all else
-
-abbrev pub fitLent : List ℕ → List Float → List Float → BoxAnswer
-fitLent verbs positions out = cond (ltb (length out) 10) (box.Refused BufferTooShort) (fitCall verbs positions)
 
 abbrev pub transformedLent : List Float → List Float → List Float → BoxAnswer
 transformedLent b frame out =

@@ -8,20 +8,10 @@ use lent_floats::COVERAGE;
 use lent_floats::FRAME;
 ghost use mathlib.Core.Path.{_≡_};
 ghost use Rattle.boundary.specs.Answers.{after, boxHanded, coverageHanded, boundsHanded, distanceHanded, testNumber};
-ghost use Rattle.box_exports.specs.Calls.{fitLent, transformedLent, intersectionLent, rectIntersectionLent, coverageLent};
+ghost use Rattle.box_exports.specs.Calls.{transformedLent, intersectionLent, rectIntersectionLent, coverageLent};
 ghost use Rattle.box_exports.specs.Calls.{boundsLent, distanceLent, parallelLent, containsLent};
 
 const TOO_SHORT: u8 = 4;
-
-pub fn fit(verbs: &[u8], positions: &[f32], out: &mut [f32]) -> u8
-    ensures { λ r. ⌜ r ≡ (boxHanded (fitLent (now (verbs .entry)) (now (positions .entry)) (now (out .entry)))) .number ⌝ }
-    ensures { λ _. ⌜ now (out .exit) ≡ after (boxHanded (fitLent (now (verbs .entry)) (now (positions .entry)) (now (out .entry)))) (now (out .entry)) ⌝ }
-{
-    if out.len() < BOX {
-        return TOO_SHORT;
-    }
-    boundary::hand_box(fit::fit(verbs, positions), out)
-}
 
 pub fn transformed(b: &[f32], frame: &[f32], out: &mut [f32]) -> u8
     ensures { λ r. ⌜ r ≡ (boxHanded (transformedLent (now (b .entry)) (now (frame .entry)) (now (out .entry)))) .number ⌝ }

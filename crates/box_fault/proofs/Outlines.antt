@@ -10,13 +10,13 @@ use lib.Ieee.{Float}
 use lib.ListN.{length}
 use borrow.Author.Tests.{le-leb, lt-leb, leb-true, leb-false, eqb-true, eqb-false, eq-eqb, ne-eqb}
 use Rattle.fault.specs.declared.Fault.{Fault}
-use Rattle.fault.specs.declared.Fault.the-variants.{NumberOutOfRange, UnknownVerb, PositionsMismatch, CurveVerb, TooManyVerbs}
+use Rattle.fault.specs.declared.Fault.the-variants.{NumberOutOfRange, UnknownVerb, PositionsMismatch, TooManyVerbs}
 use Rattle.fault.specs.declared.Check.the-variants as check
 use Rattle.geometry.specs.declared.Transform2D.{Transform2D}
 use Rattle.path.specs.Verbs.{unpackedOf}
 use Rattle.outline.specs.Outline.{verbCheckOf, verbsCheckOf, floatsNeededOf, allInRangeOf, outlineCheckOf}
 use Rattle.upright_rect.specs.Calls.{outlineFrameCheckOf}
-use Rattle.box_fault.specs.Causes.{InRange, frameNumbers, FirstAtFault, All, VerbFault, unknown, curve, Straight}
+use Rattle.box_fault.specs.Causes.{InRange, frameNumbers, FirstAtFault, All, VerbFault, unknown, KnownVerb}
 use Rattle.box_fault.specs.Causes.{OutlineFault, too-many, of-verb, mismatch, of-position, FaultlessOutline, OutlineFrameFault, of-outline, of-frame}
 use Rattle.fault.proofs.Decided.{Decided}
 use Rattle.box_fault.proofs.Lists.{EachChecked, all-pass, first-refuses, all-decided}
@@ -24,37 +24,34 @@ use Rattle.box_fault.proofs.Boxes.{frame-numbers}
 
 -- ---- one verb
 
-verb-straight : (byte : ℕ) → Straight byte → verbCheckOf byte ≡ check.Pass
+verb-known : (byte : ℕ) → KnownVerb byte → verbCheckOf byte ≡ check.Pass
 unfolding verbCheckOf unpackedOf
-verb-straight zero h = refl
-verb-straight (suc zero) h = refl
-verb-straight (suc (suc zero)) h = absurd (h .1 refl)
-verb-straight (suc (suc (suc zero))) h = refl
-verb-straight (suc (suc (suc (suc zero)))) h = refl
-verb-straight (suc (suc (suc (suc (suc zero))))) h = refl
-verb-straight (suc (suc (suc (suc (suc (suc n)))))) h = let l = h .0 in absurd (omega arith)
+verb-known zero h = refl
+verb-known (suc zero) h = refl
+verb-known (suc (suc zero)) h = refl
+verb-known (suc (suc (suc zero))) h = refl
+verb-known (suc (suc (suc (suc zero)))) h = refl
+verb-known (suc (suc (suc (suc (suc zero))))) h = refl
+verb-known (suc (suc (suc (suc (suc (suc n)))))) h = absurd (omega arith)
 
 verb-at-fault : (byte : ℕ) (f : Fault) → VerbFault byte f → verbCheckOf byte ≡ check.Refused f
 unfolding verbCheckOf unpackedOf
-verb-at-fault byte f (curve e) = rw e
 verb-at-fault byte f (unknown l) =
     let above : (n : ℕ) → n ≤ 5 → eqb byte n ≡ false = λ n h. ne-eqb byte n (λ e. omega arith) in
     rw (above 0 (omega arith), above 1 (omega arith), above 2 (omega arith), above 3 (omega arith), above 4 (omega arith), above 5 (omega arith))
 
-verb-decided : (byte : ℕ) → Decided (Straight byte) (VerbFault byte)
-verb-decided zero = inl (omega arith, λ e. omega arith)
-verb-decided (suc zero) = inl (omega arith, λ e. omega arith)
-verb-decided (suc (suc zero)) = inr (CurveVerb, curve refl)
-verb-decided (suc (suc (suc zero))) = inl (omega arith, λ e. omega arith)
-verb-decided (suc (suc (suc (suc zero)))) = inl (omega arith, λ e. omega arith)
-verb-decided (suc (suc (suc (suc (suc zero))))) = inl (omega arith, λ e. omega arith)
-verb-decided (suc (suc (suc (suc (suc (suc n)))))) = inr (UnknownVerb, unknown (omega arith))
+verb-decided : (byte : ℕ) → Decided (KnownVerb byte) (VerbFault byte)
+verb-decided byte = go (leb byte 5) refl
+  where
+    go : (b : Bool) → leb byte 5 ≡ b → Decided (KnownVerb byte) (VerbFault byte)
+    go true e = inl (leb-true _ _ e)
+    go false e = inr (UnknownVerb, unknown (leb-false _ _ e))
 
 -- ---- all verbs
 
-each-verb : EachChecked Straight VerbFault verbCheckOf verbsCheckOf
+each-verb : EachChecked KnownVerb VerbFault verbCheckOf verbsCheckOf
 unfolding verbsCheckOf
-each-verb = record { none = refl; next = λ byte bytes. refl; passes = verb-straight; caused = verb-at-fault }
+each-verb = record { none = refl; next = λ byte bytes. refl; passes = verb-known; caused = verb-at-fault }
 
 -- ---- the outline
 
@@ -68,20 +65,20 @@ module _ (verbs : List ℕ) (positions : List Float) where
 
   pub outline-passes : FaultlessOutline verbs positions → outlineCheckOf verbs positions ≡ check.Pass
   unfolding outlineCheckOf
-  outline-passes h = rw (le-leb _ _ (h .few), all-pass each-verb verbs (h .straight), eq-eqb _ _ (h .match), h .in-range)
+  outline-passes h = rw (le-leb _ _ (h .few), all-pass each-verb verbs (h .known), eq-eqb _ _ (h .match), h .in-range)
 
   pub outline-decided : Decided (FaultlessOutline verbs positions) (OutlineFault verbs positions)
   outline-decided =
       go (leb (length verbs) 256) (all-decided verb-decided verbs) (eqb (floatsNeededOf verbs) (length positions)) (allInRangeOf positions) refl refl refl
     where
-      go : (few : Bool) → Decided (All Straight verbs) (FirstAtFault Straight VerbFault verbs) → (match good : Bool) → leb (length verbs) 256 ≡ few
+      go : (few : Bool) → Decided (All KnownVerb verbs) (FirstAtFault KnownVerb VerbFault verbs) → (match good : Bool) → leb (length verbs) 256 ≡ few
           → eqb (floatsNeededOf verbs) (length positions) ≡ match → allInRangeOf positions ≡ good
           → Decided (FaultlessOutline verbs positions) (OutlineFault verbs positions)
       go false d match good l m g = inr (TooManyVerbs, too-many (leb-false _ _ l))
       go true (inr (f, e)) match good l m g = inr (f, of-verb (leb-true _ _ l) e)
       go true (inl s) false good l m g = inr (PositionsMismatch, mismatch (leb-true _ _ l) s (eqb-false _ _ m))
       go true (inl s) true false l m g = inr (NumberOutOfRange, of-position (leb-true _ _ l) s (eqb-true _ _ m) g)
-      go true (inl s) true true l m g = inl (record { few = leb-true _ _ l; straight = s; match = eqb-true _ _ m; in-range = g })
+      go true (inl s) true true l m g = inl (record { few = leb-true _ _ l; known = s; match = eqb-true _ _ m; in-range = g })
 
   -- ---- the outline and a frame
 

@@ -9,7 +9,7 @@ use lib.Ieee.{Float, lt}
 use lib.ListN.{length}
 use Rattle.float.specs.Ops.{f0}
 use Rattle.fault.specs.declared.Fault.{Fault}
-use Rattle.fault.specs.declared.Fault.the-variants.{NumberOutOfRange, ImproperBox, UnknownVerb, PositionsMismatch, CurveVerb, TooManyVerbs, TooManyBoxes}
+use Rattle.fault.specs.declared.Fault.the-variants.{NumberOutOfRange, ImproperBox, UnknownVerb, PositionsMismatch, TooManyVerbs, TooManyBoxes}
 use Rattle.geometry.specs.declared.Position.{Position}
 use Rattle.geometry.specs.declared.Transform2D.{Transform2D}
 use Rattle.shape.specs.declared.RoundedBox.{RoundedBox}
@@ -79,27 +79,27 @@ pub data TouchFault (bs : List RoundedBox) (fringe : Float) (p : Position) : Fau
   of-box : {f : Fault} → length bs ≤ mostBoxes → FirstAtFault Faultless BoxFault bs f → TouchFault bs fringe p f
   of-touch : length bs ≤ mostBoxes → All Faultless bs → OutOfRange (touchNumbers fringe p) → TouchFault bs fringe p NumberOutOfRange
 
--- ---- an outline: '11, then verbs in order (8 or 10 at the first verb at fault), 9, then 1 for positions'
+-- ---- an outline: '11, then verbs in order (8 or 10 at the first verb at fault), 9, then 1 for positions'; document 02,
+-- change 5: 'Number 10 no longer occurs'
 
--- 'a verb byte above 5' is 8, 'a curve verb given to the fitter', which is 2, is 10
+-- 'a verb byte above 5' is 8
 pub data VerbFault (byte : ℕ) : Fault → Type 0 where
   unknown : 5 < byte → VerbFault byte UnknownVerb
-  curve : byte ≡ 2 → VerbFault byte CurveVerb
 
-abbrev pub Straight : ℕ → Type 0
-Straight byte = (byte ≤ 5) × (byte ≡ 2 → ⊥)
+abbrev pub KnownVerb : ℕ → Type 0
+KnownVerb byte = byte ≤ 5
 
 pub data OutlineFault (verbs : List ℕ) (positions : List Float) : Fault → Type 0 where
   too-many : 256 < length verbs → OutlineFault verbs positions TooManyVerbs
-  of-verb : {f : Fault} → length verbs ≤ 256 → FirstAtFault Straight VerbFault verbs f → OutlineFault verbs positions f
-  mismatch : length verbs ≤ 256 → All Straight verbs → (floatsNeededOf verbs ≡ length positions → ⊥)
+  of-verb : {f : Fault} → length verbs ≤ 256 → FirstAtFault KnownVerb VerbFault verbs f → OutlineFault verbs positions f
+  mismatch : length verbs ≤ 256 → All KnownVerb verbs → (floatsNeededOf verbs ≡ length positions → ⊥)
       → OutlineFault verbs positions PositionsMismatch
-  of-position : length verbs ≤ 256 → All Straight verbs → floatsNeededOf verbs ≡ length positions → OutOfRange positions
+  of-position : length verbs ≤ 256 → All KnownVerb verbs → floatsNeededOf verbs ≡ length positions → OutOfRange positions
       → OutlineFault verbs positions NumberOutOfRange
 
 pub record FaultlessOutline (verbs : List ℕ) (positions : List Float) : Type 0 where
   pub few : length verbs ≤ 256
-  pub straight : All Straight verbs
+  pub known : All KnownVerb verbs
   pub match : floatsNeededOf verbs ≡ length positions
   pub in-range : InRange positions
 

@@ -19,7 +19,8 @@ use Rattle.path.specs.Verbs.{unpackedOf}
 use Rattle.shape.specs.Checks.{inRangeOf}
 use Rattle.outline.specs.Outline.{verbCheckOf, verbsCheckOf, floatsOf, floatsNeededOf, allInRangeOf, outlineCheckOf}
 use Rattle.outline.specs.Contour.{samePlaceOf, moveOf, drawOf, contourFrom}
-use Rattle.fit.specs.Fit.{fromStartOf, sizeBelow, crossOf, turnsOf, turnsAtOf, cornersBelow, closeOf, centredOf, spannedOf, cornersBoxOf, parallelogramOf, contourBoxOf, fitOf}
+use Rattle.fit.specs.Fit.{fromStartOf, sizeBelow, crossOf, turnsOf, turnsAtOf, cornersBelow, closeOf, centredOf, spannedOf, cornersBoxOf}
+use Rattle.fit.specs.Fit.{parallelogramOf, segmentsFittedOf, contourFittedOf, fitWithCutOf, fitOf}
 use Rattle.examples.specs.Starred.{StarredShown, TellsXFromY}
 
 pub starred-shown : StarredShown
@@ -29,7 +30,7 @@ unfolding rowsFrom addGroups groupRow edgesRow piecesOf pieceOf activeEdges reac
     ofBits ofFields odd units round size span climb ofInt add sub sum mul div rem neg lt le eq ne isNan toUnsigned trailingZeros
     laidLine
     unpackedOf verbCheckOf verbsCheckOf floatsOf floatsNeededOf inRangeOf allInRangeOf outlineCheckOf samePlaceOf moveOf drawOf contourFrom
-    fromStartOf sizeBelow crossOf turnsOf turnsAtOf cornersBelow closeOf centredOf spannedOf cornersBoxOf parallelogramOf contourBoxOf fitOf
+    fromStartOf sizeBelow crossOf turnsOf turnsAtOf cornersBelow closeOf centredOf spannedOf cornersBoxOf parallelogramOf segmentsFittedOf contourFittedOf fitWithCutOf fitOf
     narrowOf rootBelow wholeRoot roundRoot sqrtOf hypotOf
 starred-shown = (
   (refl, refl, refl, refl),

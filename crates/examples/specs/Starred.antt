@@ -14,7 +14,7 @@ use Rattle.mask.specs.Calls.{Drawing, drawing, lent, drawAnswer, maskAfterDrawi
 use Rattle.mask.specs.declared.Outcome.the-variants.{Done}
 use Rattle.shape.specs.declared.BoxAnswer.{BoxAnswer}
 use Rattle.shape.specs.declared.BoxAnswer.the-variants as box
-use Rattle.fit.specs.Fit.{fitCall}
+use Rattle.fit.specs.Calls.{fitCall}
 
 -- a call that document 01 gives, and what it says of it: the cells that a drawing or a laying-on leaves, or the
 -- fitter's answer

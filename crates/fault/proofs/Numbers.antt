@@ -1,4 +1,4 @@
--- Each cause has a number of its own, from 1 to 31 (specs/Number.antt, CauseNumbers). Assumes nothing.
+-- Each cause has a number of its own, from 1 to 31, and none has 10 (specs/Number.antt, CauseNumbers). Assumes nothing.
 use mathlib.Core.Path.{_≡_, refl, sym, ap, _∙_}
 use mathlib.Core.List.{[], _∷_}
 use Prim.Native.Nat.{ℕ, _≤_}
@@ -15,7 +15,6 @@ use Rattle.fault.specs.declared.Fault.the-variants.{
   CoordinateOutOfRange,
   UnknownVerb,
   PositionsMismatch,
-  CurveVerb,
   TooManyVerbs,
   TooManyBoxes,
   NotPgm,
@@ -24,7 +23,7 @@ use Rattle.fault.specs.declared.Fault.the-variants.{
 }
 use Rattle.fault.specs.Number.{numberOf, CauseNumbers}
 
--- the causes in the order of their numbers
+-- the causes in the order of their numbers; any stands at 0 and at 10, which are no cause's
 abbrev causeAt : ℕ → Fault
 causeAt n = getD (
     NumberOutOfRange
@@ -37,7 +36,7 @@ causeAt n = getD (
     ∷ CoordinateOutOfRange
     ∷ UnknownVerb
     ∷ PositionsMismatch
-    ∷ CurveVerb
+    ∷ NumberOutOfRange
     ∷ TooManyVerbs
     ∷ TooManyBoxes
     ∷ NotPgm
@@ -50,27 +49,28 @@ record Tabled (f : Fault) : Type 0 where
   back : causeAt (numberOf f) ≡ f
   least : 1 ≤ numberOf f
   most : numberOf f ≤ 31
+  not-ten : numberOf f ≡ 10 → ⊥
 
 tabled : (f : Fault) → Tabled f
-tabled NumberOutOfRange = record { back = refl; least = omega arith; most = omega arith }
-tabled ImproperBox = record { back = refl; least = omega arith; most = omega arith }
-tabled MaskTooLarge = record { back = refl; least = omega arith; most = omega arith }
-tabled BufferTooShort = record { back = refl; least = omega arith; most = omega arith }
-tabled ListEndsEarly = record { back = refl; least = omega arith; most = omega arith }
-tabled CountOutOfRange = record { back = refl; least = omega arith; most = omega arith }
-tabled CoordinateOutOfRange = record { back = refl; least = omega arith; most = omega arith }
-tabled UnknownVerb = record { back = refl; least = omega arith; most = omega arith }
-tabled PositionsMismatch = record { back = refl; least = omega arith; most = omega arith }
-tabled CurveVerb = record { back = refl; least = omega arith; most = omega arith }
-tabled TooManyVerbs = record { back = refl; least = omega arith; most = omega arith }
-tabled TooManyBoxes = record { back = refl; least = omega arith; most = omega arith }
-tabled NotPgm = record { back = refl; least = omega arith; most = omega arith }
-tabled WrongDepth = record { back = refl; least = omega arith; most = omega arith }
-tabled WrongRaster = record { back = refl; least = omega arith; most = omega arith }
+tabled NumberOutOfRange = record { back = refl; least = omega arith; most = omega arith; not-ten = λ e. omega arith }
+tabled ImproperBox = record { back = refl; least = omega arith; most = omega arith; not-ten = λ e. omega arith }
+tabled MaskTooLarge = record { back = refl; least = omega arith; most = omega arith; not-ten = λ e. omega arith }
+tabled BufferTooShort = record { back = refl; least = omega arith; most = omega arith; not-ten = λ e. omega arith }
+tabled ListEndsEarly = record { back = refl; least = omega arith; most = omega arith; not-ten = λ e. omega arith }
+tabled CountOutOfRange = record { back = refl; least = omega arith; most = omega arith; not-ten = λ e. omega arith }
+tabled CoordinateOutOfRange = record { back = refl; least = omega arith; most = omega arith; not-ten = λ e. omega arith }
+tabled UnknownVerb = record { back = refl; least = omega arith; most = omega arith; not-ten = λ e. omega arith }
+tabled PositionsMismatch = record { back = refl; least = omega arith; most = omega arith; not-ten = λ e. omega arith }
+tabled TooManyVerbs = record { back = refl; least = omega arith; most = omega arith; not-ten = λ e. omega arith }
+tabled TooManyBoxes = record { back = refl; least = omega arith; most = omega arith; not-ten = λ e. omega arith }
+tabled NotPgm = record { back = refl; least = omega arith; most = omega arith; not-ten = λ e. omega arith }
+tabled WrongDepth = record { back = refl; least = omega arith; most = omega arith; not-ten = λ e. omega arith }
+tabled WrongRaster = record { back = refl; least = omega arith; most = omega arith; not-ten = λ e. omega arith }
 
 pub cause-numbers : CauseNumbers
 cause-numbers = record {
   least = λ f. tabled f .least;
   most = λ f. tabled f .most;
+  never-ten = λ f. tabled f .not-ten;
   apart = λ f g e. sym (tabled f .back) ∙ ap causeAt e ∙ tabled g .back;
 }

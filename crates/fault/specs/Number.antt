@@ -1,5 +1,5 @@
--- The number of each cause: document 01, 'What a call hands back', and document 02, change 4. `CauseNumbers` is proved in
--- proofs/Numbers.antt.
+-- The number of each cause: document 01, 'What a call hands back', and document 02, changes 4 and 5. `CauseNumbers` is
+-- proved in proofs/Numbers.antt.
 use mathlib.Core.Path.{_≡_}
 use Prim.Native.Nat.{ℕ, _≤_}
 use Rattle.fault.specs.declared.Fault.{Fault}
@@ -13,7 +13,6 @@ use Rattle.fault.specs.declared.Fault.the-variants.{
   CoordinateOutOfRange,
   UnknownVerb,
   PositionsMismatch,
-  CurveVerb,
   TooManyVerbs,
   TooManyBoxes,
   NotPgm,
@@ -31,15 +30,16 @@ numberOf CountOutOfRange = 6
 numberOf CoordinateOutOfRange = 7
 numberOf UnknownVerb = 8
 numberOf PositionsMismatch = 9
-numberOf CurveVerb = 10
 numberOf TooManyVerbs = 11
 numberOf TooManyBoxes = 12
 numberOf NotPgm = 13
 numberOf WrongDepth = 14
 numberOf WrongRaster = 15
 
--- Each cause has a number of its own, from 1 to 31. 0 and the numbers past 31 are left for what a done call answers
+-- Each cause has a number of its own, from 1 to 31. 0 and the numbers past 31 are left for what a done call answers.
+-- Document 02, change 5: 'Number 10 no longer occurs, and that is shown'
 pub record CauseNumbers : Type 0 where
   pub least : (f : Fault) → 1 ≤ numberOf f
   pub most : (f : Fault) → numberOf f ≤ 31
+  pub never-ten : (f : Fault) → numberOf f ≡ 10 → ⊥
   pub apart : (f g : Fault) → numberOf f ≡ numberOf g → f ≡ g

@@ -5,6 +5,7 @@ ghost use Rattle.fault.specs.Number.{numberOf};
 ghost use Rattle.fault.specs.Check.{unlessOf, _andThen_};
 
 // One variant for each cause, in its document's words: document 01's table to 12, document 02 from 13 on.
+// 10 was a curve verb given to the fitter, and is given to nothing since change 5.
 pub enum Fault {
     // 1: a box, frame, point, fringe or position number is not finite, or its size is over 2^20
     NumberOutOfRange,
@@ -24,8 +25,6 @@ pub enum Fault {
     UnknownVerb,
     // 9: verbs need more positions than given, or fewer
     PositionsMismatch,
-    // 10: a curve verb given to the fitter
-    CurveVerb,
     // 11: over 256 verbs
     TooManyVerbs,
     // 12: over 256 boxes in a touch list
@@ -54,7 +53,6 @@ impl Fault {
             Fault::CoordinateOutOfRange => 7,
             Fault::UnknownVerb => 8,
             Fault::PositionsMismatch => 9,
-            Fault::CurveVerb => 10,
             Fault::TooManyVerbs => 11,
             Fault::TooManyBoxes => 12,
             Fault::NotPgm => 13,

@@ -14,8 +14,8 @@ use Rattle.geometry.specs.declared.Position.{Position}
 use Rattle.shape.specs.declared.MaybeBox.the-variants as maybe
 use Rattle.fit.specs.Fit.{fromStartOf, sizeBelow, sizeOf, turnsOf, turnsAtOf, cornersBelow, cornersOf, fourOf}
 use Rattle.outline.specs.Outline.{mostPoints}
-use Rattle.outline.specs.Kept.{pointAt, pointsIn}
-use Rattle.fit.specs.Kept.{Turned, countOf}
+use Rattle.outline.specs.Kept.{pointAt, pointsIn, countOf}
+use Rattle.fit.specs.Kept.{Turned}
 use Rattle.outline.proofs.Points.{points-none, points-length, points-at, stored-below, stored-next}
 
 -- ---- the size of the first i points

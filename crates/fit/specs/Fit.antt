@@ -1,5 +1,5 @@
--- shape.rs's `parallelogram` and `fit`, for straight outlines. `⊕ ⊖ ⊗ ⊘` are binary32's operations, and each rounds
--- once. Definitions only.
+-- shape.rs's `parallelogram`, `fit_with_cut` and `fit`. `⊕ ⊖ ⊗ ⊘` are binary32's operations, and each rounds once.
+-- Definitions only.
 use mathlib.Core.Bool.{Bool, cond, _&&_}
 use mathlib.Core.List.{List, [], _∷_, _++_}
 use Prim.Native.Nat.{ℕ, zero, suc, _+_, _-_, _%_}
@@ -12,12 +12,12 @@ use Rattle.geometry.specs.declared.Position.{Position}
 use Rattle.shape.specs.declared.RoundedBox.{RoundedBox}
 use Rattle.shape.specs.declared.MaybeBox.{MaybeBox}
 use Rattle.shape.specs.declared.MaybeBox.the-variants as maybe
-use Rattle.shape.specs.declared.BoxAnswer.{BoxAnswer}
-use Rattle.shape.specs.Calls.{boxUnless}
 use Rattle.outline.specs.declared.Segment.{Segment}
 use Rattle.outline.specs.declared.Segment.the-variants as segment
-use Rattle.outline.specs.Outline.{outlineCheckOf}
 use Rattle.outline.specs.Contour.{Contour, Walked, stopped, reached, origin, contourOf, emptyOf, samePlaceOf, linePointsOf, allLinesOf}
+use Rattle.rounded.specs.declared.Fitted.{Fitted}
+use Rattle.rounded.specs.declared.Fitted.the-variants as fitted
+use Rattle.rounded.specs.Rounded.{roundedOf}
 use Rattle.fit.specs.declared.Corners.{Corners}
 
 -- CORNER_TOLERANCE, 1e-4
@@ -106,7 +106,7 @@ fourOf (p0 ∷ p1 ∷ p2 ∷ p3 ∷ p4 ∷ ps) size = maybe.NoBox
 unfoldable pub parallelogramOf : Position → List Position → MaybeBox
 parallelogramOf start points = fourOf (cornersOf points (sizeOf start points)) (sizeOf start points)
 
--- ---- RoundedBox::fit
+-- ---- RoundedBox::fit_with_cut
 
 -- `contour`'s end: back at the start, or a last line to it
 abbrev pub closedOf : Contour → List Segment
@@ -116,21 +116,33 @@ closedOf k = cond (samePlaceOf (k .last) (k .start)) (k .segments) (k .segments 
 abbrev pub pointsOf : Position → List Segment → List Position
 pointsOf start segments = start ∷ linePointsOf (take (length segments - 1) segments)
 
--- `fit_with_cut`, whose `rounded` is left out: where there is a curve, no box
-abbrev pub segmentsBoxOf : Position → List Segment → MaybeBox
-segmentsBoxOf start segments = cond (allLinesOf segments) (parallelogramOf start (pointsOf start segments)) maybe.NoBox
+-- `Self::parallelogram(start, &segments).map(|shape| (shape, 0.0, None))`
+abbrev pub wholeOf : MaybeBox → Fitted
+wholeOf (maybe.Box b) = fitted.Whole b f0
+wholeOf maybe.NoBox = fitted.NoBox
+
+-- all lines, or `rounded`
+unfoldable pub segmentsFittedOf : Position → List Segment → Fitted
+segmentsFittedOf start segments =
+    cond (allLinesOf segments) (wholeOf (parallelogramOf start (pointsOf start segments))) (roundedOf start segments)
 
 -- no start, or no segment: no contour, and no box
-unfoldable pub contourBoxOf : Contour → MaybeBox
-contourBoxOf k = cond (k .started) (cond (emptyOf (closedOf k)) maybe.NoBox (segmentsBoxOf (k .start) (closedOf k))) maybe.NoBox
+unfoldable pub contourFittedOf : Contour → Fitted
+contourFittedOf k = cond (k .started) (cond (emptyOf (closedOf k)) fitted.NoBox (segmentsFittedOf (k .start) (closedOf k))) fitted.NoBox
 
-abbrev pub walkedBoxOf : Walked → MaybeBox
-walkedBoxOf stopped = maybe.NoBox
-walkedBoxOf (reached k) = contourBoxOf k
+abbrev pub walkedFittedOf : Walked → Fitted
+walkedFittedOf stopped = fitted.NoBox
+walkedFittedOf (reached k) = contourFittedOf k
+
+unfoldable pub fitWithCutOf : List ℕ → List Float → Fitted
+fitWithCutOf verbs positions = walkedFittedOf (contourOf verbs positions)
+
+-- ---- RoundedBox::fit: `(shape, strays, None) => Some((shape, strays)), _ => None`, then the box alone
+
+abbrev pub boxAlone : Fitted → MaybeBox
+boxAlone (fitted.Whole b strays) = maybe.Box b
+boxAlone (fitted.Cut b strays cut) = maybe.NoBox
+boxAlone fitted.NoBox = maybe.NoBox
 
 unfoldable pub fitOf : List ℕ → List Float → MaybeBox
-fitOf verbs positions = walkedBoxOf (contourOf verbs positions)
-
--- the public call
-abbrev pub fitCall : List ℕ → List Float → BoxAnswer
-fitCall verbs positions = boxUnless (outlineCheckOf verbs positions) (fitOf verbs positions)
+fitOf verbs positions = boxAlone (fitWithCutOf verbs positions)

@@ -1,20 +1,30 @@
-// The box that a straight outline draws: `parallelogram` and `fit` of femtovg's clip/shape.rs.
-// `rounded` is left out: a curve is refused.
+// The box that an outline draws: `parallelogram`, `fit_with_cut`, `fit_outline` and `fit` of femtovg's
+// clip/shape.rs.
+//
+// A call of the same name as the Rust's refuses as documents 01 and 02 say and else answers what the
+// Rust does, by a definition of specs/.
 ghost use mathlib.Core.Path.{_≡_};
-ghost use Prim.Native.Nat.{_<_, _≤_};
+ghost use Prim.Native.Nat.{_<_, _≤_, _+_};
 ghost use lib.ListN.{length};
 ghost use Rattle.outline.specs.Outline.{floatsNeededOf, mostVerbs, mostPoints};
-ghost use Rattle.outline.specs.Contour.{Contour};
-ghost use Rattle.outline.specs.Kept.{pointAt, pointsIn, EndedAt};
+ghost use Rattle.outline.specs.Contour.{Contour, reached, contourOf};
+ghost use Rattle.outline.specs.Kept.{walkOf, pointAt, pointsIn, countOf, EndedAt};
+ghost use Rattle.rounded.specs.Rounded.{roundedOf};
 ghost use Rattle.fit.specs.Fit.{fromStartOf, sizeOf, crossOf, turnsOf, turnsAtOf, closeOf, centredOf};
-ghost use Rattle.fit.specs.Fit.{spannedOf, cornersBoxOf, parallelogramOf, fitOf, halfSideOf, contourBoxOf, fitCall};
-ghost use Rattle.fit.specs.Kept.{Turned, ClosedCount, countOf};
+ghost use Rattle.fit.specs.Fit.{spannedOf, cornersBoxOf, parallelogramOf, halfSideOf};
+ghost use Rattle.fit.specs.Fit.{closedOf, wholeOf, contourFittedOf, fitWithCutOf, boxAlone, fitOf};
+ghost use Rattle.fit.specs.Calls.{outlineAnswer, cutAnswer, fitCall, fitOutlineCall, fitWithCutCall};
+ghost use Rattle.fit.specs.Kept.{Turned, ClosedCount};
 use fault::Check;
+use fault::Fault;
 use geometry::Position;
 use geometry::Transform2D;
 use outline::MOST_POINTS;
+use outline::Piece;
+use outline::Segment;
 use outline::Step;
 use outline::Walk;
+use rounded::Fitted;
 use shape::BoxAnswer;
 use shape::MaybeBox;
 use shape::RoundedBox;
@@ -214,11 +224,21 @@ fn parallelogram(
     Corners { p0, p1, p2, p3 }.parallelogram(size)
 }
 
-// ---- fit
+// ---- the box of a contour
+
+// A parallelogram's outline does not stray.
+fn whole(found: MaybeBox) -> Fitted
+    ensures { λ r. ⌜ r ≡ wholeOf found ⌝ }
+{
+    let MaybeBox::Box(b) = found else {
+        return Fitted::NoBox;
+    };
+    Fitted::Whole(b, 0.0)
+}
 
 // How many segments a contour has once it is closed, by a line where it is not back at its start.
 fn closed_count(walk: Walk) -> usize
-    requires { ⌜ walk .count ≤ mostVerbs ⌝ }
+    requires { ⌜ walk .count + countOf (walk .started) ≤ mostVerbs ⌝ }
     ensures { λ r. ⌜ ClosedCount walk r ⌝ }
 {
     let n = walk.count;
@@ -236,26 +256,114 @@ fn closed_count(walk: Walk) -> usize
     n + 1
 }
 
+// The box of a closed contour of n segments, one of them a curve. The closing line is stored in either
+// case, and past the segments where the contour is back at its start.
+fn curved(verbs: &[u8], positions: &[f32], walk: Walk, n: usize) -> Fitted
+    requires { ⌜ length (now verbs) ≤ mostVerbs ⌝ }
+    requires { ⌜ floatsNeededOf (now verbs) ≡ length (now positions) ⌝ }
+    requires { ⌜ (walk .count < mostVerbs) × (n ≤ mostVerbs) ⌝ }
+    ensures { λ r. ⌜ ((k : Contour) → contourOf (now (verbs .entry)) (now (positions .entry)) ≡ reached k → walk ≡ walkOf k → n ≡ length (closedOf k)
+        → r ≡ roundedOf (k .start) (closedOf k)) ⌝ }
+{
+    let x = walk.sx;
+    let y = walk.sy;
+    let at = walk.count;
+    let list = outline::segments(verbs, positions);
+    let mut all = list.pieces;
+    let segment = Segment::Line(x, y);
+    all[at] = Piece { segment };
+    rounded::rounded(Position { x, y }, all, n)
+}
+
 // The box of a contour once it is closed.
-fn closed(walk: Walk, xs: &[f32; MOST_POINTS], ys: &[f32; MOST_POINTS]) -> MaybeBox
-    requires { ⌜ walk .count ≤ mostVerbs ⌝ }
-    ensures { λ r. ⌜ ((k : Contour) → EndedAt k (Step.Go walk) (now (xs .entry)) (now (ys .entry)) → r ≡ contourBoxOf k) ⌝ }
+fn closed(
+    verbs: &[u8],
+    positions: &[f32],
+    walk: Walk,
+    xs: &[f32; MOST_POINTS],
+    ys: &[f32; MOST_POINTS],
+) -> Fitted
+    requires { ⌜ length (now verbs) ≤ mostVerbs ⌝ }
+    requires { ⌜ floatsNeededOf (now verbs) ≡ length (now positions) ⌝ }
+    requires { ⌜ walk .count + countOf (walk .started) ≤ mostVerbs ⌝ }
+    ensures { λ r. ⌜ ((k : Contour) → contourOf (now (verbs .entry)) (now (positions .entry)) ≡ reached k
+        → EndedAt k (Step.Go walk) (now (xs .entry)) (now (ys .entry)) → r ≡ contourFittedOf k) ⌝ }
 {
     if !walk.started {
-        return MaybeBox::NoBox;
-    }
-    if !walk.straight {
-        return MaybeBox::NoBox;
+        return Fitted::NoBox;
     }
     let n = closed_count(walk);
     if n == 0 {
-        return MaybeBox::NoBox;
+        return Fitted::NoBox;
+    }
+    if !walk.straight {
+        return curved(verbs, positions, walk, n);
     }
     let start = Position {
         x: walk.sx,
         y: walk.sy,
     };
-    parallelogram(start, xs, ys, n)
+    whole(parallelogram(start, xs, ys, n))
+}
+
+fn fit_with_cut_unchecked(verbs: &[u8], positions: &[f32]) -> Fitted
+    requires { ⌜ length (now verbs) ≤ mostVerbs ⌝ }
+    requires { ⌜ floatsNeededOf (now verbs) ≡ length (now positions) ⌝ }
+    ensures { λ r. ⌜ r ≡ fitWithCutOf (now (verbs .entry)) (now (positions .entry)) ⌝ }
+{
+    let mut xs = [0.0f32; MOST_POINTS];
+    let mut ys = [0.0f32; MOST_POINTS];
+    let Step::Go(walk) = outline::contour(verbs, positions, &mut xs, &mut ys) else {
+        return Fitted::NoBox;
+    };
+    closed(verbs, positions, walk, &xs, &ys)
+}
+
+// ---- the calls
+
+pub enum OutlineAnswer {
+    // a box and its strays
+    Outline(RoundedBox, f32),
+    NoBox,
+    Refused(Fault),
+}
+
+pub enum CutAnswer {
+    Whole(RoundedBox, f32),
+    // a box, its strays, and the box that cuts it
+    Cut(RoundedBox, f32, RoundedBox),
+    NoBox,
+    Refused(Fault),
+}
+
+fn cut_answer(found: Fitted) -> CutAnswer
+    ensures { λ r. ⌜ r ≡ cutAnswer found ⌝ }
+{
+    match found {
+        Fitted::Whole(b, strays) => CutAnswer::Whole(b, strays),
+        Fitted::Cut(b, strays, cut) => CutAnswer::Cut(b, strays, cut),
+        Fitted::NoBox => CutAnswer::NoBox,
+    }
+}
+
+fn outline_answer(found: Fitted) -> OutlineAnswer
+    ensures { λ r. ⌜ r ≡ outlineAnswer found ⌝ }
+{
+    match found {
+        Fitted::Whole(b, strays) => OutlineAnswer::Outline(b, strays),
+        Fitted::Cut(_, _, _) => OutlineAnswer::NoBox,
+        Fitted::NoBox => OutlineAnswer::NoBox,
+    }
+}
+
+fn box_alone(found: Fitted) -> MaybeBox
+    ensures { λ r. ⌜ r ≡ boxAlone found ⌝ }
+{
+    match found {
+        Fitted::Whole(b, _) => MaybeBox::Box(b),
+        Fitted::Cut(_, _, _) => MaybeBox::NoBox,
+        Fitted::NoBox => MaybeBox::NoBox,
+    }
 }
 
 pub fn fit_unchecked(verbs: &[u8], positions: &[f32]) -> MaybeBox
@@ -263,18 +371,36 @@ pub fn fit_unchecked(verbs: &[u8], positions: &[f32]) -> MaybeBox
     requires { ⌜ floatsNeededOf (now verbs) ≡ length (now positions) ⌝ }
     ensures { λ r. ⌜ r ≡ fitOf (now (verbs .entry)) (now (positions .entry)) ⌝ }
 {
-    let mut xs = [0.0f32; MOST_POINTS];
-    let mut ys = [0.0f32; MOST_POINTS];
-    let Step::Go(walk) = outline::contour(verbs, positions, &mut xs, &mut ys) else {
-        return MaybeBox::NoBox;
-    };
-    closed(walk, &xs, &ys)
+    box_alone(fit_with_cut_unchecked(verbs, positions))
 }
 
-// The box that an outline draws, if it is one: a single contour that goes once around a
-// parallelogram.
+// The box that an outline draws, its strays, and for a rectangle with the two corners of one side round
+// the box that cuts it there.
+// Ruled out: strays without the tenth on top; the cut found from another side.
+pub fn fit_with_cut(verbs: &[u8], positions: &[f32]) -> CutAnswer
+    ensures { λ r. ⌜ r ≡ fitWithCutCall (now (verbs .entry)) (now (positions .entry)) ⌝ }
+{
+    if let Check::Refused(fault) = outline::outline_check(verbs, positions) {
+        return CutAnswer::Refused(fault);
+    }
+    cut_answer(fit_with_cut_unchecked(verbs, positions))
+}
+
+// The box that an outline draws and how far the outline strays outside it; none where it is cut.
+// Ruled out: a cut's first box; strays of -0 for a straight outline.
+pub fn fit_outline(verbs: &[u8], positions: &[f32]) -> OutlineAnswer
+    ensures { λ r. ⌜ r ≡ fitOutlineCall (now (verbs .entry)) (now (positions .entry)) ⌝ }
+{
+    if let Check::Refused(fault) = outline::outline_check(verbs, positions) {
+        return OutlineAnswer::Refused(fault);
+    }
+    outline_answer(fit_with_cut_unchecked(verbs, positions))
+}
+
+// The box that an outline draws, if it is one: a single contour that goes once around a parallelogram,
+// or around an upright rounded rectangle or ellipse.
 // Ruled out: a box for an outline with a fifth corner; no box for a thin one, whose turns pass 1e-4 of
-// the size squared and not 1e-4 of the size.
+// the size squared and not 1e-4 of the size; a cut's first box.
 pub fn fit(verbs: &[u8], positions: &[f32]) -> BoxAnswer
     ensures { λ r. ⌜ r ≡ fitCall (now (verbs .entry)) (now (positions .entry)) ⌝ }
 {

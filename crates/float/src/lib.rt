@@ -8,6 +8,7 @@ ghost use mathlib.Core.Bool.{false};
 ghost use lib.Ieee.{inf, binary32, binary64, units};
 ghost use lib.Ieee.Scale.{finite};
 ghost use Rattle.float.specs.Simple.{absOf, minOf, maxOf, signumOf};
+ghost use Rattle.float.specs.Arctan.{ratioOf, eighthOf, steepOf, behindOf, underOf, atan2Of};
 ghost use Rattle.float.specs.Parts.{Fields, Unpacked, patternOf};
 
 // No constant can be an infinity, so it is a function.
@@ -186,4 +187,77 @@ pub fn pack64(negative: bool, q: u64, k: u64) -> f64
         0x8000_0000_0000_0000,
     );
     f64::from_bits(bits)
+}
+
+// ---- the arctangent of y over x: document 02's stand-in
+
+// The sizes of the powers of a ratio in its arctangent, and a quarter and half a turn.
+const POWER_7: f32 = 0.0464964749;
+
+const POWER_5: f32 = 0.15931422;
+
+const POWER_3: f32 = 0.327622764;
+
+const QUARTER_TURN: f32 = 1.57079637;
+
+const HALF_TURN: f32 = 3.14159274;
+
+// The smaller of two sizes by the larger; 0 where both are 0.
+fn ratio(ax: f32, ay: f32) -> f32
+    ensures { λ r. ⌜ r ≡ ratioOf ax ay ⌝ }
+{
+    if ax == 0.0 && ay == 0.0 {
+        return 0.0;
+    }
+    if ax < ay {
+        return ax / ay;
+    }
+    ay / ax
+}
+
+// The arctangent of a ratio.
+fn eighth(a: f32) -> f32
+    ensures { λ r. ⌜ r ≡ eighthOf a ⌝ }
+{
+    let s = a * a;
+    ((-POWER_7 * s + POWER_5) * s - POWER_3) * s * a + a
+}
+
+// Where y is the larger in size.
+fn steep(ax: f32, ay: f32, r: f32) -> f32
+    ensures { λ t. ⌜ t ≡ steepOf ax ay r ⌝ }
+{
+    if ax < ay {
+        return QUARTER_TURN - r;
+    }
+    r
+}
+
+// Where x is below 0.
+fn behind(x: f32, r: f32) -> f32
+    ensures { λ t. ⌜ t ≡ behindOf x r ⌝ }
+{
+    if x < 0.0 {
+        return HALF_TURN - r;
+    }
+    r
+}
+
+// Where y is below 0.
+fn under(y: f32, r: f32) -> f32
+    ensures { λ t. ⌜ t ≡ underOf y r ⌝ }
+{
+    if y < 0.0 {
+        return -r;
+    }
+    r
+}
+
+// Ruled out: sizes that are equal taken for a larger y; -3.14159274 for a y of -0, which is not below 0.
+pub fn atan2(y: f32, x: f32) -> f32
+    ensures { λ r. ⌜ r ≡ atan2Of y x ⌝ }
+{
+    let ax = abs(x);
+    let ay = abs(y);
+    under(y, behind(x, steep(ax, ay, eighth(ratio(ax, ay)))))
 }

@@ -5,6 +5,7 @@ ghost use Prim.Native.Nat.{_^_, min as smallerOf};
 ghost use lib.Ieee.{binary32, binary64};
 ghost use lib.Ieee.Scale.{finite};
 ghost use Rattle.float.specs.Simple.{absOf, minOf, maxOf, signumOf};
+ghost use Rattle.float.specs.Arctan.{atan2Of};
 ghost use Rattle.narrowing.specs.Width.{narrowOf};
 ghost use Rattle.whole.specs.Whole.{floorOf, ceilOf, columnOf, byteOf, ofWhole};
 ghost use Rattle.roots.specs.Root.{sqrtOf, hypotOf};
@@ -77,6 +78,13 @@ pub extern "C" fn beamnettle_float_hypot(x: f32, y: f32) -> f32
     ensures { λ r. ⌜ r ≡ hypotOf x y ⌝ }
 {
     roots::hypot(x, y)
+}
+
+#[no_mangle]
+pub extern "C" fn beamnettle_float_atan2(y: f32, x: f32) -> f32
+    ensures { λ r. ⌜ r ≡ atan2Of y x ⌝ }
+{
+    float::atan2(y, x)
 }
 
 #[no_mangle]

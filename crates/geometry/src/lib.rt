@@ -133,8 +133,8 @@ pub struct Bounds {
 }
 
 impl Bounds {
-    // The bounds of no points, the least above the greatest: where `from_points` begins.
-    fn none() -> Self
+    // The bounds of no points, the least above the greatest: where bounds begin.
+    pub fn none() -> Self
         ensures { λ r. ⌜ r ≡ noBounds ⌝ }
     {
         let top = float::infinity();
@@ -147,7 +147,7 @@ impl Bounds {
     }
 
     // The bounds with one point more.
-    fn with_point(self, p: Position) -> Self
+    pub fn with_point(self, p: Position) -> Self
         ensures { λ r. ⌜ r ≡ withPointOf self p ⌝ }
     {
         Self {

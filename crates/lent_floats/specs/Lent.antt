@@ -51,6 +51,13 @@ coverageFloats k =
 abbrev pub boundsFloats : Bounds → List Float
 boundsFloats b = b .minx ∷ b .miny ∷ b .maxx ∷ b .maxy ∷ []
 
+-- 'a box, its strays, and the cut box where one side is square'
+abbrev pub outlineFloats : RoundedBox → Float → List Float
+outlineFloats b strays = boxFloats b ++ (strays ∷ [])
+
+abbrev pub cutOutlineFloats : RoundedBox → Float → RoundedBox → List Float
+cutOutlineFloats b strays cut = outlineFloats b strays ++ boxFloats cut
+
 -- an answer's floats at the front of what is lent; what lies past them is not changed
 abbrev pub over : List Float → List Float → List Float
 over floats lent = floats ++ drop (length floats) lent

@@ -6,9 +6,10 @@ use shape::RoundedBox;
 ghost use mathlib.Core.Path.{_≡_};
 ghost use Prim.Native.Nat.{_≤_};
 ghost use lib.ListN.{length};
-ghost use Rattle.lent_floats.specs.Lent.{coverageIn, boundsIn, boxFloats, coverageFloats, boundsFloats, over};
+ghost use Rattle.lent_floats.specs.Lent.{coverageIn, boundsIn, boxFloats, coverageFloats, boundsFloats, outlineFloats, cutOutlineFloats, over};
 
-// How many floats a box, a frame, a coverage and bounds take.
+// How many floats a box, a frame, a coverage, bounds, an outline's box with its strays, and that with the
+// box that cuts it take.
 pub const BOX: usize = 10;
 
 pub const FRAME: usize = 6;
@@ -16,6 +17,10 @@ pub const FRAME: usize = 6;
 pub const COVERAGE: usize = 11;
 
 pub const BOUNDS: usize = 4;
+
+pub const OUTLINE: usize = 11;
+
+pub const CUT_OUTLINE: usize = 21;
 
 // ---- read
 
@@ -99,4 +104,49 @@ pub fn put_bounds(out: &mut [f32], b: Bounds)
     ensures { λ _. ⌜ now (out .exit) ≡ over (boundsFloats b) (now (out .entry)) ⌝ }
 {
     put(out, &[b.minx, b.miny, b.maxx, b.maxy]);
+}
+
+pub fn put_outline(out: &mut [f32], b: RoundedBox, strays: f32)
+    requires { ⌜ 11 ≤ length (now out) ⌝ }
+    ensures { λ _. ⌜ now (out .exit) ≡ over (outlineFloats b strays) (now (out .entry)) ⌝ }
+{
+    let f = b.frame;
+    put(
+        out,
+        &[f.a, f.b, f.c, f.d, f.x, f.y, b.ex, b.ey, b.rx, b.ry, strays],
+    );
+}
+
+pub fn put_cut_outline(out: &mut [f32], b: RoundedBox, strays: f32, cut: RoundedBox)
+    requires { ⌜ 21 ≤ length (now out) ⌝ }
+    ensures { λ _. ⌜ now (out .exit) ≡ over (cutOutlineFloats b strays cut) (now (out .entry)) ⌝ }
+{
+    let f = b.frame;
+    let g = cut.frame;
+    put(
+        out,
+        &[
+            f.a,
+            f.b,
+            f.c,
+            f.d,
+            f.x,
+            f.y,
+            b.ex,
+            b.ey,
+            b.rx,
+            b.ry,
+            strays,
+            g.a,
+            g.b,
+            g.c,
+            g.d,
+            g.x,
+            g.y,
+            cut.ex,
+            cut.ey,
+            cut.rx,
+            cut.ry,
+        ],
+    );
 }

@@ -1,5 +1,5 @@
 -- What the fitter refuses. Document 01: 'Outline: 11, then verbs in order (8 or 10 at the first verb at fault), 9,
--- then 1 for positions'. Definitions only.
+-- then 1 for positions'; document 02, change 5: 'Number 10 no longer occurs'. Definitions only.
 use mathlib.Core.Bool.{Bool, true, _&&_}
 use mathlib.Core.List.{List, [], _∷_}
 use Prim.Native.Nat.{ℕ, suc, _+_, _*_}
@@ -10,25 +10,14 @@ use Rattle.fault.specs.declared.Fault.the-variants as fault
 use Rattle.fault.specs.declared.Check.{Check}
 use Rattle.fault.specs.declared.Check.the-variants as check
 use Rattle.fault.specs.Check.{unlessOf, _andThen_}
-use Rattle.path.specs.declared.PackedVerb.{PackedVerb}
-use Rattle.path.specs.declared.PackedVerb.the-variants as packed
 use Rattle.path.specs.declared.Unpacked.{Unpacked}
 use Rattle.path.specs.declared.Unpacked.the-variants as unpacked
 use Rattle.path.specs.Verbs.{unpackedOf, numCoordinatesOf}
 use Rattle.shape.specs.Checks.{inRangeOf, numbersCheckOf}
 
--- 'a curve verb given to the fitter' is number 10
-abbrev pub straightCheckOf : PackedVerb → Check
-straightCheckOf packed.MoveTo = check.Pass
-straightCheckOf packed.LineTo = check.Pass
-straightCheckOf packed.BezierTo = check.Refused fault.CurveVerb
-straightCheckOf packed.Solid = check.Pass
-straightCheckOf packed.Hole = check.Pass
-straightCheckOf packed.Close = check.Pass
-
 -- 'a verb byte above 5' is number 8
 abbrev pub unpackedCheckOf : Unpacked → Check
-unpackedCheckOf (unpacked.Verb p) = straightCheckOf p
+unpackedCheckOf (unpacked.Verb p) = check.Pass
 unpackedCheckOf (unpacked.Refused f) = check.Refused f
 
 unfoldable pub verbCheckOf : ℕ → Check
@@ -59,7 +48,7 @@ allInRangeOf (x ∷ xs) = inRangeOf x && allInRangeOf xs
 abbrev pub mostVerbs : ℕ
 mostVerbs = 256
 
--- the start, and an end for each verb
+-- the start, and the end of each segment: one for each verb but the MoveTo, and one that closes the contour
 abbrev pub mostPoints : ℕ
 mostPoints = suc mostVerbs
 

@@ -1,11 +1,11 @@
 // An outline: what is refused of its verbs and positions, and its single contour. `contour` of
-// femtovg's clip/shape.rs. A curve is refused.
+// femtovg's clip/shape.rs.
 ghost use mathlib.Core.Path.{_≡_};
 ghost use Prim.Native.Nat.{_<_, _≤_};
 ghost use lib.ListN.{length};
 ghost use Rattle.outline.specs.Outline.{verbCheckOf, verbsCheckOf, floatsOf, floatsNeededOf, allInRangeOf, mostVerbs, mostPoints, outlineCheckOf};
 ghost use Rattle.outline.specs.Contour.{Contour, newContour, samePlaceOf, drawOf, moveOf, contourStepOf, contourOf};
-ghost use Rattle.outline.specs.Kept.{walkOf, walkPushedOf, walkClosedOf, shutOf, stepOf, Ended};
+ghost use Rattle.outline.specs.Kept.{walkOf, walkPushedOf, walkClosedOf, shutOf, stepOf, candidateOf, Ended, Stored};
 use fault::Check;
 use fault::Fault;
 use geometry::Position;
@@ -13,8 +13,11 @@ use path::PackedVerb;
 use path::Unpacked;
 use path::Verb;
 
-// The most verbs of an outline, and of points: its start, and an end for each verb.
+// The most verbs of an outline; of segments: one for each verb but the MoveTo, and one that closes the
+// contour; and of points: the start, and each segment's end.
 pub const MOST_VERBS: usize = 256;
+
+pub const MOST_SEGMENTS: usize = 256;
 
 pub const MOST_POINTS: usize = 257;
 
@@ -24,21 +27,19 @@ pub enum Segment {
     Cubic(f32, f32, f32, f32, f32, f32),
 }
 
+// A segment as an array holds it.
+pub struct Piece {
+    pub segment: Segment,
+}
+
 // ---- refusals
 
-// The check of one verb: 8, or 10 for a curve.
+// The check of one verb: 8 for a byte that is none.
 fn verb_check(byte: u8) -> Check
     ensures { λ r. ⌜ r ≡ verbCheckOf byte ⌝ }
 {
     match PackedVerb::from_byte(byte) {
-        Unpacked::Verb(packed) => match packed {
-            PackedVerb::MoveTo => Check::Pass,
-            PackedVerb::LineTo => Check::Pass,
-            PackedVerb::BezierTo => Check::Refused(Fault::CurveVerb),
-            PackedVerb::Solid => Check::Pass,
-            PackedVerb::Hole => Check::Pass,
-            PackedVerb::Close => Check::Pass,
-        },
+        Unpacked::Verb(_) => Check::Pass,
         Unpacked::Refused(fault) => Check::Refused(fault),
     }
 }
@@ -288,4 +289,58 @@ pub fn contour(
     xs[n] = walk.lx;
     ys[n] = walk.ly;
     Step::Go(walk)
+}
+
+// ---- the segments
+
+// The segment that a verb may add.
+fn candidate(verb: Verb) -> Segment
+    ensures { λ r. ⌜ r ≡ candidateOf verb ⌝ }
+{
+    match verb {
+        Verb::MoveTo(x, y) => Segment::Line(x, y),
+        Verb::LineTo(x, y) => Segment::Line(x, y),
+        Verb::BezierTo(a, b, c, d, x, y) => Segment::Cubic(a, b, c, d, x, y),
+        Verb::Solid => Segment::Line(0.0, 0.0),
+        Verb::Hole => Segment::Line(0.0, 0.0),
+        Verb::Close => Segment::Line(0.0, 0.0),
+    }
+}
+
+// The segments of a contour.
+pub struct SegmentList {
+    pub pieces: [Piece; MOST_SEGMENTS],
+}
+
+// The segments that the walk over all verbs adds: the same walk once more, for an outline with curves. A
+// segment is stored before it is known whether the verb adds it; where it does not, the next is stored
+// over it.
+pub fn segments(verbs: &[u8], positions: &[f32]) -> SegmentList
+    requires { ⌜ length (now verbs) ≤ mostVerbs ⌝ }
+    requires { ⌜ floatsNeededOf (now verbs) ≡ length (now positions) ⌝ }
+    ensures { λ r. ⌜ Stored (contourOf (now (verbs .entry)) (now (positions .entry))) (r .pieces) ⌝ }
+{
+    let mut pieces = [Piece {
+        segment: Segment::Line(0.0, 0.0),
+    }; MOST_SEGMENTS];
+    let mut walk = Walk::new();
+    let mut i: usize = 0;
+    let mut at: usize = 0;
+    while i < verbs.len() {
+        let n = walk.count;
+        let byte = verbs[i];
+        let Unpacked::Verb(packed) = PackedVerb::from_byte(byte) else {
+            return SegmentList { pieces };
+        };
+        let verb = Verb::from_packed(packed, positions, at);
+        let segment = candidate(verb);
+        pieces[n] = Piece { segment };
+        let Step::Go(next) = walk.step(verb) else {
+            return SegmentList { pieces };
+        };
+        walk = next;
+        at += floats(byte);
+        i += 1;
+    }
+    SegmentList { pieces }
 }

@@ -7,6 +7,8 @@ ghost use Prim.Native.Nat.{_≤_};
 
 enum OutlineCall {
     Fit,
+    FitOutline,
+    FitWithCut,
     UprightRect,
 }
 
@@ -19,6 +21,8 @@ fn behind(call: OutlineCall) -> usize
 {
     match call {
         OutlineCall::Fit => 0,
+        OutlineCall::FitOutline => 0,
+        OutlineCall::FitWithCut => 0,
         OutlineCall::UprightRect => FRAME,
     }
 }
@@ -27,6 +31,16 @@ fn behind(call: OutlineCall) -> usize
 
 fn answer_fit(verbs: &[u8], positions: &[f32]) -> Problem {
     answers::boxed(fit::fit(verbs, positions));
+    Problem::Nothing
+}
+
+fn answer_fit_outline(verbs: &[u8], positions: &[f32]) -> Problem {
+    answers::outlined(fit::fit_outline(verbs, positions));
+    Problem::Nothing
+}
+
+fn answer_fit_with_cut(verbs: &[u8], positions: &[f32]) -> Problem {
+    answers::cut(fit::fit_with_cut(verbs, positions));
     Problem::Nothing
 }
 
@@ -43,6 +57,8 @@ fn answer_upright_rect(verbs: &[u8], positions: &[f32], frame: &[f32]) -> Proble
 fn answer_parts(call: OutlineCall, verbs: &[u8], positions: &[f32], behind: &[f32]) -> Problem {
     match call {
         OutlineCall::Fit => answer_fit(verbs, positions),
+        OutlineCall::FitOutline => answer_fit_outline(verbs, positions),
+        OutlineCall::FitWithCut => answer_fit_with_cut(verbs, positions),
         OutlineCall::UprightRect => answer_upright_rect(verbs, positions, behind),
     }
 }
@@ -127,6 +143,14 @@ fn of_verbs(call: OutlineCall, line: &[u8; MOST_LINE], at: usize) -> Problem {
 
 pub fn fit(line: &[u8; MOST_LINE], at: usize) -> Problem {
     of_verbs(OutlineCall::Fit, line, at)
+}
+
+pub fn fit_outline(line: &[u8; MOST_LINE], at: usize) -> Problem {
+    of_verbs(OutlineCall::FitOutline, line, at)
+}
+
+pub fn fit_with_cut(line: &[u8; MOST_LINE], at: usize) -> Problem {
+    of_verbs(OutlineCall::FitWithCut, line, at)
 }
 
 pub fn upright_rect(line: &[u8; MOST_LINE], at: usize) -> Problem {

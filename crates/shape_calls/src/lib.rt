@@ -135,19 +135,30 @@ fn of_floats(line: &[u8; MOST_LINE], call: FloatCall, at: usize) -> Problem {
     Problem::Nothing
 }
 
-// Answers the call that has a name, with the fields behind it.
-pub fn answer(line: &[u8; MOST_LINE], name: Field) -> Problem {
+// The calls that take an outline.
+fn answer_outline(line: &[u8; MOST_LINE], name: Field) -> Problem {
     if fields::is(line, name, b"fit") {
         return outline_calls::fit(line, name.end);
+    }
+    if fields::is(line, name, b"fit_outline") {
+        return outline_calls::fit_outline(line, name.end);
+    }
+    if fields::is(line, name, b"fit_with_cut") {
+        return outline_calls::fit_with_cut(line, name.end);
     }
     if fields::is(line, name, b"upright_rect") {
         return outline_calls::upright_rect(line, name.end);
     }
+    Problem::UnknownCall
+}
+
+// Answers the call that has a name, with the fields behind it.
+pub fn answer(line: &[u8; MOST_LINE], name: Field) -> Problem {
     if fields::is(line, name, b"touch") {
         return box_calls::touch(line, name.end);
     }
     match call(line, name) {
-        FloatCall::Unknown => Problem::UnknownCall,
+        FloatCall::Unknown => answer_outline(line, name),
         known => of_floats(line, known, name.end),
     }
 }

@@ -1,10 +1,12 @@
 -- `outline::contour` meets its contract: the walk so far stands for a contour, from which the verbs left lead to
 -- where all lead. Assumes nothing.
-use Prim.Native.Nat.{_-_}
+use Prim.Native.Nat.{_-_, _<_, _≤_}
 use mathlib.Core.Path.{sym, _∙_}
 use borrow.Author.Needs.{needs}
+use Rattle.outline.specs.Outline.{mostVerbs, mostPoints}
 use Rattle.outline.proofs.Scan.{floats-next}
-use Rattle.outline.proofs.Contouring.{Walking, begins, count-fits, ends, bad-byte, room, stops, goes}
+use Rattle.outline.proofs.Contouring.{Walking, begins, count-is, most, bad-byte, room, stops, goes}
+use Rattle.outline.proofs.Ends.{Ends, no-ends, ends-kept, ends-all}
 use denote.Ref.{now}
 use lib.ListN.{length}
 use native.Mathlib.Omega.{arith}
@@ -12,25 +14,33 @@ use Rattle.outline.proofs.contour.Statement.{statement}
 use Rattle.outline.proofs.contour.Tie as tie
 
 abbrev Inv-loop : tie.InvT-loop
-Inv-loop verbs positions xs₀ ys₀ walk₀ i₀ at₀ xs ys walk i at = Walking verbs positions xs ys walk i at
+Inv-loop verbs positions xs₀ ys₀ walk₀ i₀ at₀ xs ys walk i at = Walking (Ends xs ys) verbs positions walk i at
 
 abbrev μ-loop : tie.MeasureT-loop
 μ-loop verbs positions xs₀ ys₀ walk₀ i₀ at₀ xs ys walk i at = length verbs - i
 
 loop-holds : tie.Need-loop-holds Inv-loop μ-loop
-loop-holds c = let pre = c .before .before .before .pre in begins (pre .1 .0) (pre .1 .1 .0) (pre .1 .1 .1) (c .new .ensures)
+loop-holds c = let pre = c .before .before .before .pre in begins (no-ends (pre .1 .1 .0) (pre .1 .1 .1)) (pre .1 .0) (c .new .ensures)
+
+-- there is room for one point more
+module _ (s : tie.At-loop Inv-loop μ-loop) where
+  abbrev few : length (now (s .before .before .before .before .args .verbs)) ≤ mostVerbs
+  few = s .before .before .before .before .pre .0
+
+  abbrev fits : s .loop .walk .count < mostPoints
+  fits = let n = most (s .loop .inv) few in let c = count-is (s .loop .inv) in omega arith
 
 mul-xs : tie.Need-mul-xs Inv-loop μ-loop
-mul-xs c = let n = count-fits (c .before .loop .inv) (c .before .before .before .before .before .pre .0) in omega arith
+mul-xs c = let n = fits (c .before) in omega arith
 
 element-write-xs : tie.Need-element-write-xs Inv-loop μ-loop
-element-write-xs c = let n = count-fits (c .before .loop .inv) (c .before .before .before .before .before .pre .0) in omega arith
+element-write-xs c = let n = fits (c .before) in let w = c .before .loop .inv .kept .widex in omega arith
 
 mul-ys : tie.Need-mul-ys Inv-loop μ-loop
-mul-ys c = let n = count-fits (c .before .loop .inv) (c .before .before .before .before .before .pre .0) in omega arith
+mul-ys c = let n = fits (c .before) in omega arith
 
 element-write-ys : tie.Need-element-write-ys Inv-loop μ-loop
-element-write-ys c = let n = count-fits (c .before .loop .inv) (c .before .before .before .before .before .pre .0) in omega arith
+element-write-ys c = let n = fits (c .before) in let w = c .before .loop .inv .kept .widey in omega arith
 
 shared-slice-read-byte : tie.Need-shared-slice-read-byte Inv-loop μ-loop
 shared-slice-read-byte c = c .before .loop-test .taken
@@ -50,8 +60,7 @@ from-packed-requires c κs =
 
 step-requires : tie.Need-step-requires Inv-loop μ-loop
 step-requires c κs =
-    let at-loop = c .before .before .before .before .before .before .before in
-    count-fits (at-loop .loop .inv) (at-loop .before .before .before .before .pre .0)
+    fits (c .before .before .before .before .before .before .before)
 
 returns-2 : tie.Need-returns-2 Inv-loop μ-loop
 returns-2 c =
@@ -86,23 +95,24 @@ loop-again c =
     let at-test = at-byte .before .before in
     let at-loop = at-test .before in
     let u = sym (at-byte .from-byte .ensures) ∙ at-packed .packed .given .1 in
-    goes (at-loop .loop .inv) (at-test .loop-test .taken) u (at-verb .from-packed .ensures) (at-step .step .ensures)
-    (at-loop .before .before .before .before .pre .0) (at-next .next .given .1) (c .floats .ensures)
+    let keeps = ends-kept (at-loop .loop .inv) (few at-loop) (at-verb .from-packed .result) in
+    goes (at-loop .loop .inv) (at-test .loop-test .taken) u (at-verb .from-packed .ensures) (at-step .step .ensures) (at-next .next .given .1)
+    (c .floats .ensures) keeps
 
 mul-xs-2 : tie.Need-mul-xs-2 Inv-loop μ-loop
-mul-xs-2 c = let n = count-fits (c .before .loop .inv) (c .before .before .before .before .before .pre .0) in omega arith
+mul-xs-2 c = let n = fits (c .before) in omega arith
 
 element-write-xs-2 : tie.Need-element-write-xs-2 Inv-loop μ-loop
-element-write-xs-2 c = let n = count-fits (c .before .loop .inv) (c .before .before .before .before .before .pre .0) in omega arith
+element-write-xs-2 c = let n = fits (c .before) in let w = c .before .loop .inv .kept .widex in omega arith
 
 mul-ys-2 : tie.Need-mul-ys-2 Inv-loop μ-loop
-mul-ys-2 c = let n = count-fits (c .before .loop .inv) (c .before .before .before .before .before .pre .0) in omega arith
+mul-ys-2 c = let n = fits (c .before) in omega arith
 
 element-write-ys-2 : tie.Need-element-write-ys-2 Inv-loop μ-loop
-element-write-ys-2 c = let n = count-fits (c .before .loop .inv) (c .before .before .before .before .before .pre .0) in omega arith
+element-write-ys-2 c = let n = fits (c .before) in let w = c .before .loop .inv .kept .widey in omega arith
 
 returns-3 : tie.Need-returns-3 Inv-loop μ-loop
-returns-3 c = ends (c .before .loop .inv) (c .loop-test .left) (c .before .before .before .before .before .pre .0)
+returns-3 c = ends-all (c .before .loop .inv) (few (c .before)) (c .loop-test .left)
 
 pub contour-spec : {M : Type 1} → statement M
 contour-spec =
