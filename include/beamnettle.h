@@ -157,9 +157,9 @@ uint8_t beamnettle_fit_outline(const uint8_t *verbs, size_t verbs_length, const 
 
 /* The same, and what a tab draws: a rectangle along the axes of which just the two corners of one side are square and
  * the others are round and alike. That is a cut: a box with four round corners that runs past the square side by twice
- * its radius there, and the cut box, the outline's own rectangle with square corners; the outline holds what lies in
- * both, and its strays are outside that. Writes a box and its strays to out, and of a cut the cut box behind them, 21
- * floats in all. That many are asked for always; without a cut the last ten are left as they were.
+ * its radius there, and the cut box, the outline's own rectangle with square corners. What lies in both is the shape
+ * that the outline draws, and its strays lie outside that. Writes a box and its strays to out, and of a cut the cut box
+ * behind them, 21 floats in all. That many are asked for always; without a cut the last ten are left as they were.
  * Returns 0 where the outline is whole, 38 where it is a cut, 32 where it is neither, or what beamnettle_fit refuses,
  * in its order. */
 uint8_t beamnettle_fit_with_cut(const uint8_t *verbs, size_t verbs_length, const float *positions,
