@@ -49,7 +49,8 @@ pub record RefusedExactlyWhen : Type 0 where
   pub touch : (bs : List RoundedBox) (fringe : Float) (p : Position)
       → ForItsFirstCause touched.Refused (touchCall bs fringe p) (TouchFault bs fringe p)
 
--- Document 02, change 1: 'A done call of `upright_rect` gives no box for a straight outline of more than 8 verbs'
+-- Document 02, change 1: 'A done call of `upright_rect` gives no box for a straight outline of more than 8 verbs'; nor for
+-- a curved one, as in the Rust
 abbrev pub NoBoxPastEight : Type 0
 NoBoxPastEight = (verbs : List ℕ) (positions : List Float) (t : Transform2D)
     → FaultlessOutline verbs positions → InRange (frameNumbers t) → 8 < length verbs → uprightRectCall verbs positions t ≡ box.NoBox

@@ -46,8 +46,8 @@ abbrev pub tabStrays : Float
 tabStrays = ofBits binary32 0x3995_5333
 
 -- an upright box: its centre, half extents and one radius
-abbrev pub upright : Float → Float → Float → Float → Float → RoundedBox
-upright x y ex ey r = record { frame = record { a = f1; b = f0; c = f0; d = f1; x = x; y = y }; ex = ex; ey = ey; rx = r; ry = r }
+abbrev pub roundedAt : Float → Float → Float → Float → Float → RoundedBox
+roundedAt x y ex ey r = record { frame = record { a = f1; b = f0; c = f0; d = f1; x = x; y = y }; ex = ex; ey = ey; rx = r; ry = r }
 
 -- 'circle of four cubics', of radius 1
 abbrev pub circleVerbs : List ℕ
@@ -89,11 +89,11 @@ cornerCurve =
     beside-2 ∷ f-1 ∷ beside-2 ∷ f-1 ∷ f-2 ∷ f-1 ∷ f-2 ∷ f-1 ∷ f2 ∷ f-1 ∷ f2 ∷ f1 ∷ f-2 ∷ f1 ∷ []
 
 pub record CurvesFit : Type 0 where
-  pub circle-fits : fitWithCutCall circleVerbs circle ≡ cut.Whole (upright f0 f0 f1 f1 f1) circleStrays
+  pub circle-fits : fitWithCutCall circleVerbs circle ≡ cut.Whole (roundedAt f0 f0 f1 f1 f1) circleStrays
   -- the box runs past the square side, of high y, by twice its radius; only `fit_with_cut` answers it
-  pub tab-fits : fitWithCutCall tabVerbs tab ≡ cut.Cut (upright f4 f3 f4 f3 f1) tabStrays (upright f4 f2 f4 f2 f0)
+  pub tab-fits : fitWithCutCall tabVerbs tab ≡ cut.Cut (roundedAt f4 f3 f4 f3 f1) tabStrays (roundedAt f4 f2 f4 f2 f0)
   pub tab-outline : fitOutlineCall tabVerbs tab ≡ outline.NoBox
   pub tab-alone : fitCall tabVerbs tab ≡ box.NoBox
-  pub rect-fits : fitOutlineCall rectVerbs rect ≡ outline.Outline (upright f2 f1 f2 f1 f0) f0
+  pub rect-fits : fitOutlineCall rectVerbs rect ≡ outline.Outline (roundedAt f2 f1 f2 f1 f0) f0
   -- the arctangent jumps where both sizes are equal: a step back of 0.0004
   pub corner-does-not : fitCall rectVerbs cornerCurve ≡ box.NoBox

@@ -28,6 +28,6 @@ uprightBy (maybe.Box b) t = uprightOnlyOf (transformedOf b t)
 uprightBy maybe.NoBox t = maybe.NoBox
 
 -- RoundedBox::upright_rect. Document 02, change 1: 'A done call of `upright_rect` gives no box for a straight outline
--- of more than 8 verbs'
+-- of more than 8 verbs'; nor for a curved one, as in the Rust
 unfoldable pub uprightRectOf : List ℕ → List Float → Transform2D → MaybeBox
 uprightRectOf verbs positions t = cond (leb (length verbs) maxFillVerbs) (uprightBy (fitOf verbs positions) t) maybe.NoBox
