@@ -1,11 +1,9 @@
 -- `corner_radii::left` meets its contract. Assumes nothing.
-use Rattle.corner_radii.specs.Radii.{leftOf}
 use borrow.Author.Needs.{needs}
 use Rattle.corner_radii.proofs.left.Statement.{statement}
 use Rattle.corner_radii.proofs.left.Tie as tie
 
 returns : tie.Need-returns
-unfolding leftOf
 returns c = rw (c .before .far .given .1)
 
 pub left-spec : {M : Type 1} → statement M

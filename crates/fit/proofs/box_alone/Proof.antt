@@ -1,11 +1,9 @@
 -- `fit::box_alone` meets its contract. Assumes nothing.
-use Rattle.fit.specs.Fit.{boxAlone}
 use borrow.Author.Needs.{needs}
 use Rattle.fit.proofs.box_alone.Statement.{statement}
 use Rattle.fit.proofs.box_alone.Tie as tie
 
 returns : tie.Need-returns
-unfolding boxAlone
 returns c = rw (c .before .found .given .1)
 
 pub box-alone-spec : {M : Type 1} → statement M

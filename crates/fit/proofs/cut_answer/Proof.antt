@@ -1,15 +1,12 @@
 -- `fit::cut_answer` meets its contract. Assumes nothing.
-use Rattle.fit.specs.Calls.{cutAnswer}
 use borrow.Author.Needs.{needs}
 use Rattle.fit.proofs.cut_answer.Statement.{statement}
 use Rattle.fit.proofs.cut_answer.Tie as tie
 
 returns : tie.Need-returns
-unfolding cutAnswer
 returns c = rw (c .before .found .given .1)
 
 returns-2 : tie.Need-returns-2
-unfolding cutAnswer
 returns-2 c = rw (c .before .found2 .given .1)
 
 pub cut-answer-spec : {M : Type 1} → statement M

@@ -1,11 +1,9 @@
 -- `fit::outline_answer` meets its contract. Assumes nothing.
-use Rattle.fit.specs.Calls.{outlineAnswer}
 use borrow.Author.Needs.{needs}
 use Rattle.fit.proofs.outline_answer.Statement.{statement}
 use Rattle.fit.proofs.outline_answer.Tie as tie
 
 returns : tie.Need-returns
-unfolding outlineAnswer
 returns c = rw (c .before .found .given .1)
 
 pub outline-answer-spec : {M : Type 1} → statement M

@@ -1,11 +1,9 @@
 -- `fit::whole` meets its contract. Assumes nothing.
-use Rattle.fit.specs.Fit.{wholeOf}
 use borrow.Author.Needs.{needs}
 use Rattle.fit.proofs.whole.Statement.{statement}
 use Rattle.fit.proofs.whole.Tie as tie
 
 returns-2 : tie.Need-returns-2
-unfolding wholeOf
 returns-2 c = rw (c .before .found .given .1)
 
 pub whole-spec : {M : Type 1} → statement M
