@@ -78,6 +78,41 @@ pub fn offsets(l: &mut List) {
     }
 }
 
+/// Where the rows of two masks of unequal widths meet: before, in and past the other mask.
+pub fn row_starts(l: &mut List) {
+    l.line("# laying on: unequal widths over several rows, each byte of the other another");
+    let next: Vec<u8> = (1..=20).map(|at| 12 * at).collect();
+    l.bytes("next", &next);
+    for sizes in [
+        [[2, 3], [3, 3]],
+        [[3, 3], [2, 3]],
+        [[1, 5], [4, 2]],
+        [[4, 2], [1, 5]],
+        [[2, 4], [5, 4]],
+        [[3, 4], [0, 4]],
+        [[3, 4], [4, 0]],
+        [[0, 4], [3, 4]],
+    ] {
+        let [own, other] = sizes.map(|[_, height]| height as i32);
+        let far = [
+            -4096,
+            4096,
+            i32::MIN,
+            i32::MIN + own,
+            i32::MAX - own,
+            i32::MAX,
+        ];
+        for (at, y) in (-own - 1..=other + 1).chain(far).enumerate() {
+            for x in [0, [-1, 1][at % 2]] {
+                l.line("bufn run 13 255");
+                l.lay(sizes, [x, y]);
+                l.line("show run");
+            }
+        }
+    }
+    l.line("show next");
+}
+
 /// A mask of a chain.
 struct Mask {
     name: &'static str,

@@ -1,7 +1,7 @@
 //! The fixed list of calls: document 01's examples, each refusal at its boundary and one step
 //! inside it, known corners, and random calls from a fixed seed.
 use crate::{
-    chains::{chains, layings, offsets},
+    chains::{chains, layings, offsets, row_starts},
     curves::curves,
     holds::holds,
     pgm::pgms,
@@ -634,7 +634,7 @@ pub fn list() -> String {
     let mut list = List::default();
     for part in [
         examples, numbers, improper, masks, layings, offsets, outlines, corners, random, chains,
-        touches, scissors, holds, bad_lines, pgms, curves,
+        touches, scissors, holds, bad_lines, pgms, curves, row_starts,
     ] {
         part(&mut list);
     }

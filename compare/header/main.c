@@ -151,6 +151,13 @@ static void laying(void) {
     CHECK(memcmp(mask, kept, sizeof mask) == 0);
     CHECK(beamnettle_lay(mask, 7, 3, 2, other, 6, 2, 3, -1, 1) == BEAMNETTLE_DONE);
     CHECK(memcmp(mask, laid, sizeof mask) == 0);
+    /* a wider other mask: cell (column, row) meets (column + 1, row - 1), row 0 none */
+    uint8_t open[] = {255, 255, 255, 255, 255, 255, 77};
+    const uint8_t wider[] = {1, 2, 3, 4, 5, 6, 7, 8, 9}, met[] = {0, 0, 2, 3, 5, 6, 77};
+    CHECK(beamnettle_lay(open, 7, 2, 3, wider, 9, 3, 3, 1, -1) == BEAMNETTLE_DONE);
+    CHECK(memcmp(open, met, sizeof open) == 0);
+    CHECK(beamnettle_lay(open, 7, 2, 3, wider, 9, 3, 3, 0, INT32_MIN) == BEAMNETTLE_DONE);
+    CHECK(memcmp(open, (const uint8_t[]){0, 0, 0, 0, 0, 0, 77}, sizeof open) == 0);
 }
 
 /* ---- PGM files */

@@ -245,3 +245,71 @@ pub fn chain(random: &mut Random, few: bool) -> Chain {
         reckoned: few,
     }
 }
+
+// ---- the sweep
+
+/// Every two sizes with sides up to here are laid on each other.
+const SWEPT_SIDE: usize = 3;
+
+/// The offsets along an axis of small masks: overlapping, touching, just apart, and an offset's ends.
+fn swept_offsets() -> impl Iterator<Item = i32> {
+    let apart = SWEPT_SIDE as i32 + 1;
+    (-apart..=apart).chain([i32::MIN, i32::MIN + 1, i32::MAX - 1, i32::MAX])
+}
+
+/// The sizes and the offset of a laying-on.
+pub type Laid = ([[usize; 2]; 2], [i32; 2]);
+
+/// All layings-on of small masks.
+fn small_layings() -> impl Iterator<Item = Laid> {
+    let sides = || 0..=SWEPT_SIDE;
+    let size = move || sides().flat_map(move |width| sides().map(move |height| [width, height]));
+    let sizes = size().flat_map(move |own| size().map(move |other| [own, other]));
+    let offset = || swept_offsets().flat_map(|x| swept_offsets().map(move |y| [x, y]));
+    sizes.flat_map(move |sizes| offset().map(move |offset| (sizes, offset)))
+}
+
+/// Masks with the most rows, of unequal widths, that meet in all rows, all but one, one or none.
+fn tall_layings() -> impl Iterator<Item = Laid> {
+    let widths = [[1, 2], [2, 1], [3, 64], [64, 3], [4095, 4096], [4096, 4095]];
+    let rows = [0, 1, -1, 2048, -2048, 4095, -4095, 4096, -4096];
+    let sizes = widths.map(|widths| widths.map(|width| [width, 4096]));
+    let laid = move |sizes| rows.map(|row| (sizes, [0, row]));
+    sizes.into_iter().flat_map(laid)
+}
+
+pub fn swept_layings() -> impl Iterator<Item = Laid> {
+    small_layings().chain(tall_layings())
+}
+
+/// A chain of one laying-on, of rubbish on rubbish, with up to two bytes behind each mask.
+pub fn laying((sizes, offset): Laid, random: &mut Random) -> Chain {
+    let masks = sizes.map(|[width, height]| {
+        let length = width * height + random.below(3);
+        (0..length).map(|_| random.bits() as u8).collect()
+    });
+    Chain {
+        masks,
+        steps: vec![Step::Lay { sizes, offset }],
+        reckoned: false,
+    }
+}
+
+#[cfg(test)]
+mod tests {
+    use super::*;
+
+    #[test]
+    fn swept() {
+        let sides = SWEPT_SIDE + 1;
+        let offsets = 2 * sides + 1 + 4;
+        assert!(small_layings().count() == sides.pow(4) * offsets.pow(2));
+        assert!(tall_layings().count() == 54);
+        let random = &mut Random::new(1);
+        assert!(small_layings().all(|laid| {
+            let Chain { masks, .. } = laying(laid, random);
+            let mut sizes = laid.0.iter().zip(&masks);
+            sizes.all(|([width, height], mask)| (0..3).contains(&(mask.len() - width * height)))
+        }));
+    }
+}

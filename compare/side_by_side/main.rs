@@ -152,15 +152,6 @@ fn put_pgm_call(call: pgm::Call, random: &mut Random, counts: &mut Counts) {
     }
 }
 
-/// The calls that every run has: each byte of small PGM headers at every value, each width and height.
-fn put_sweep(random: &mut Random, counts: &mut Counts) {
-    for call in pgm_files::headers().chain(pgm_files::sizes()) {
-        if counts.differ < MOST_DIFFERENCES {
-            put_pgm_call(call, random, counts);
-        }
-    }
-}
-
 fn put_chain(chain: Chain, drawing: &mut Drawing, random: &mut Random, counts: &mut Counts) {
     match chain::compare(&chain, drawing, random, &mut counts.closeness) {
         Ok(numbers) => {
@@ -170,6 +161,21 @@ fn put_chain(chain: Chain, drawing: &mut Drawing, random: &mut Random, counts: &
         Err(difference) => {
             let (chain, difference) = shrunk(chain, difference);
             counts.difference(&difference, &chain);
+        }
+    }
+}
+
+/// The calls that every run has: each byte of small PGM headers at every value, each width and height;
+/// small masks of all sizes, and the tallest, laid on each other.
+fn put_sweep(drawing: &mut Drawing, random: &mut Random, counts: &mut Counts) {
+    for call in pgm_files::headers().chain(pgm_files::sizes()) {
+        if counts.differ < MOST_DIFFERENCES {
+            put_pgm_call(call, random, counts);
+        }
+    }
+    for laid in chains::swept_layings() {
+        if counts.differ < MOST_DIFFERENCES {
+            put_chain(chains::laying(laid, random), drawing, random, counts);
         }
     }
 }
@@ -206,7 +212,7 @@ fn main() {
     let start = Instant::now();
     let mut shown = start;
     if !only_curves {
-        put_sweep(&mut random, &mut counts);
+        put_sweep(&mut drawing, &mut random, &mut counts);
     }
     while start.elapsed() < limit && counts.differ < MOST_DIFFERENCES {
         if only_curves {

@@ -207,12 +207,12 @@ fn drawn(size: [usize; 2], groups: &[Vec<Contour>]) -> Vec<u8> {
 }
 
 /// Lays the other mask on a fresh copy of the mask.
-fn lay(name: &str, side: usize, own: &[u8], other: &[u8], offset: [i32; 2]) {
-    let size = [side, side];
+fn lay(name: &str, sizes: [[usize; 2]; 2], own: &[u8], other: &[u8], offset: [i32; 2]) {
+    let [size, met] = sizes;
     let (mut old, mut new) = (own.to_vec(), own.to_vec());
-    assert_eq!(calls::lay(&mut old, size, other, size, offset), Ok(()));
+    assert_eq!(calls::lay(&mut old, size, other, met, offset), Ok(()));
     assert_eq!(
-        library::lay(&mut new, size, other, size, offset),
+        library::lay(&mut new, size, other, met, offset),
         library::DONE
     );
     assert!(old == new, "{name}: masks differ");
@@ -220,11 +220,11 @@ fn lay(name: &str, side: usize, own: &[u8], other: &[u8], offset: [i32; 2]) {
         name,
         &mut || {
             old.copy_from_slice(own);
-            let _ = black_box(calls::lay(black_box(&mut old), size, other, size, offset));
+            let _ = black_box(calls::lay(black_box(&mut old), size, other, met, offset));
         },
         &mut || {
             new.copy_from_slice(own);
-            black_box(library::lay(black_box(&mut new), size, other, size, offset));
+            black_box(library::lay(black_box(&mut new), size, other, met, offset));
         },
     );
 }
@@ -239,19 +239,33 @@ fn layings() {
             drawn([side; 2], &[vec![star(middle, reaches, 24)]]),
         )
     };
+    let square = |side: usize| [[side; 2]; 2];
     let (own, other) = of(1024);
-    lay("lay, 1,024 x 1,024", 1024, &own, &other, [0, 0]);
+    lay("lay, 1,024 x 1,024", square(1024), &own, &other, [0, 0]);
     lay(
         "lay, 1,024 x 1,024, offset 100 -60",
-        1024,
+        square(1024),
         &own,
         &other,
         [100, -60],
     );
     let grey: Vec<u8> = (0..1024 * 1024).map(|i| (i * 7 % 256) as u8).collect();
-    lay("lay, 1,024 x 1,024, all grey", 1024, &grey, &grey, [0, 0]);
+    lay(
+        "lay, 1,024 x 1,024, all grey",
+        square(1024),
+        &grey,
+        &grey,
+        [0, 0],
+    );
+    lay(
+        "lay, 4 x 4,096 by 3 x 4,096, offset 0 -9",
+        [[4, 4096], [3, 4096]],
+        &grey[..4 * 4096],
+        &grey[..3 * 4096],
+        [0, -9],
+    );
     let (own, other) = of(16);
-    lay("lay, 16 x 16", 16, &own, &other, [0, 0]);
+    lay("lay, 16 x 16", square(16), &own, &other, [0, 0]);
 }
 
 // ---- PGM files

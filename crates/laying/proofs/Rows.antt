@@ -24,7 +24,7 @@ use Rattle.laying.proofs.Laid.{row-length as laid-length, row-get as la
 
 -- ---- along one axis
 
-from-start : (z : ℤ) (n : ℕ) → startOf z .own ≤ n → pos n +ℤ z ≡ pos (rowMet (startOf z) n)
+pub from-start : (z : ℤ) (n : ℕ) → startOf z .own ≤ n → pos n +ℤ z ≡ pos (rowMet (startOf z) n)
 from-start (pos m) n h = ap pos (omega arith)
 from-start (negsuc m) n h = rw (le-ltb n (suc m) h) (ap pos (omega arith))
 

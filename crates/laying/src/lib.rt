@@ -2,10 +2,12 @@
 use cells::Size;
 ghost use mathlib.Core.Path.{_≡_};
 ghost use Prim.Native.Nat.{_≤_};
+ghost use lib.IntN.{pos, _*ℤ_};
 ghost use lib.ListN.{length};
 ghost use Rattle.cells.specs.Cells.{cellsOf, SizeAllowed};
 ghost use Rattle.laying.specs.Laying.{laying, laidByte, layingOf};
 ghost use Rattle.laying.specs.Lines.{startOf, underOf, lineOf, rowOf};
+ghost use Rattle.laying.specs.Starts.{MetRowStart};
 
 // Where a mask's corner lies in the other: its cell (column, row) meets (column + x, row + y).
 pub struct Offset {
@@ -32,6 +34,14 @@ fn first_met(offset: i32) -> Start
         own: 0,
         other: offset as usize,
     }
+}
+
+// Where the row of the other mask that row 0 meets starts: below 0, if that lies before its first row.
+fn first_start(offset: i32, width: usize) -> i64
+    requires { ⌜ width ≤ 4096 ⌝ }
+    ensures { λ r. ⌜ r ≡ offset *ℤ pos width ⌝ }
+{
+    (offset as i64) * (width as i64)
 }
 
 fn lay_byte(cell: u8, other: u8) -> u8
@@ -83,10 +93,11 @@ fn lay_line(line: &mut [u8], others: &[u8], x: Start)
     lay_front(&mut line[own..], &others[from..]);
 }
 
-// Lays the other mask's row that a row meets on it, and clears a row that meets none.
-fn lay_row(line: &mut [u8], other: &[u8], size: Size, row: usize, x: Start, y: Start)
+// Lays the other mask's row that a row meets, and that starts at start, on it, and clears a row that meets none.
+fn lay_row(line: &mut [u8], other: &[u8], size: Size, start: i64, row: usize, x: Start, y: Start)
     requires { ⌜ SizeAllowed size × (cellsOf size ≤ length (now other)) ⌝ }
     requires { ⌜ (row ≤ 4096) × (y .other ≤ 2147483648) ⌝ }
+    requires { ⌜ MetRowStart y size row start ⌝ }
     ensures { λ _. ⌜ now (line .exit) ≡ rowOf x y size (now (other .entry)) row (now (line .entry)) ⌝ }
 {
     if row < y.own {
@@ -98,7 +109,7 @@ fn lay_row(line: &mut [u8], other: &[u8], size: Size, row: usize, x: Start, y: S
         cells::clear_bytes(line);
         return;
     }
-    let from = met * size.width;
+    let from = start as usize;
     let to = from + size.width;
     lay_line(line, &other[from..to], x);
 }
@@ -113,12 +124,17 @@ pub fn lay(mask: &mut [u8], size: Size, other: &[u8], other_size: Size, offset: 
     let y = first_met(offset.y);
     let width = size.width;
     let height = size.height;
+    let other_width = other_size.width;
+    let other_stride = other_width as i64;
     let mut from = 0;
+    let mut other_from = first_start(offset.y, other_width);
     let mut row = 0;
     while row < height {
         let to = from + width;
-        lay_row(&mut mask[from..to], other, other_size, row, x, y);
+        let line = &mut mask[from..to];
+        lay_row(line, other, other_size, other_from, row, x, y);
         from = to;
+        other_from += other_stride;
         row += 1;
     }
 }

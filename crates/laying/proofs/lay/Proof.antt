@@ -1,62 +1,110 @@
--- `laying::lay` meets its contract: what is left to do is done as before, row by row. Assumes nothing.
-use mathlib.Core.Path.{_≡_, ap, _∙_}
-use Prim.Native.Nat.{_-_}
+-- `laying::lay` meets its contract: what is left to do is done as before, row by row, and both masks' row starts are
+-- kept. Assumes nothing.
+use mathlib.Core.Path.{_≡_, ap, ap₂, _∙_}
+use mathlib.Core.List.{List}
+use Prim.Native.Nat.{ℕ, _-_, _≤_}
 use native.Mathlib.Omega.{arith}
-use mir.Syntax.{w32}
-use mir.Val.{SFits}
+use lib.IntN.{ℤ, pos, _*ℤ_}
+use mir.Syntax.{w32, w64}
+use mir.Val.{SFits, toZ, ofZ}
 use mir.ValLaws.{toZ-ofZ}
+use Rattle.cells.specs.Rows.{rowsChanged}
 use Rattle.cells.proofs.Rows.{ChangedTo, changed-start, changed-more, changed-all, line-room}
-use Rattle.laying.specs.Laying.{laying}
+use Rattle.laying.specs.declared.Start.{Start}
+use Rattle.laying.specs.Laying.{Laying, laying}
 use Rattle.laying.specs.Lines.{startOf, rowOf}
 use Rattle.laying.proofs.Offsets.{start-small}
 use Rattle.laying.proofs.Rows.{all-rows}
+use Rattle.laying.proofs.Starts.{Kept, kept-start, kept-more, Near, first-fits, sum-fits, sum-is, met-start, kept-near}
 use borrow.Author.Needs.{needs}
 use Rattle.laying.proofs.lay.Statement.{statement}
 use Rattle.laying.proofs.lay.Tie as tie
 
+-- the rows before are changed, both starts are kept, and what the other's grows by is small
 abbrev Inv-loop : tie.InvT-loop
-Inv-loop mask₀ other other-size x y width height from₀ row₀ mask from row = ChangedTo (rowOf x y other-size other) width height mask₀ mask from row
+Inv-loop mask₀ other other-size x y width height other-width other-stride from₀ other-from₀ row₀ mask from other-from row =
+    ChangedTo (rowOf x y other-size other) width height mask₀ mask from row
+    × Kept width (other-size .width) (toZ w64 other-from₀) row from (toZ w64 other-from)
+    × (other-stride ≤ 4096)
 
 abbrev μ-loop : tie.MeasureT-loop
-μ-loop mask₀ other other-size x y width height from₀ row₀ mask from row = height - row
+μ-loop mask₀ other other-size x y width height other-width other-stride from₀ other-from₀ row₀ mask from other-from row = height - row
 
 loop-holds : tie.Need-loop-holds Inv-loop μ-loop
-loop-holds c = changed-start (c .before .before .before .before .before .before .pre .0 .1)
+loop-holds c =
+    let pre = c .before .before .before .before .before .before .before .before .pre in
+    (changed-start (pre .0 .1), kept-start, omega (arith, pre .0 .0 .0, pre .1 .0 .0))
+
+-- what is known before the loop
+module _ (s : tie.At-loop Inv-loop μ-loop) where
+  abbrev start : tie.Start Inv-loop μ-loop
+  start = s .before .before .before .before .before .before .before .before .before
+
+  abbrev l : Laying
+  l = laying (start .args .size) (start .args .other-size) (start .args .offset)
+
+  fits-x : SFits w32 (l .offset .x)
+  fits-x = record { sfits = start .good .1 .1 .1 .1 .0 .1 .1 .0 .1 }
+
+  fits-y : SFits w32 (l .offset .y)
+  fits-y = record { sfits = start .good .1 .1 .1 .1 .0 .1 .1 .1 .0 .1 }
+
+  x-met : s .before .before .before .before .before .first-met .result ≡ startOf (l .offset .x)
+  x-met = s .before .before .before .before .before .first-met .ensures ∙ ap startOf (toZ-ofZ w32 (l .offset .x) fits-x)
+
+  y-met : s .before .before .before .first-met2 .result ≡ startOf (l .offset .y)
+  y-met = s .before .before .before .first-met2 .ensures ∙ ap startOf (toZ-ofZ w32 (l .offset .y) fits-y)
+
+  begun : toZ w64 (ofZ w64 (s .before .first-start .result)) ≡ l .offset .y *ℤ pos (l .otherSize .width)
+  begun =
+      let w = l .otherSize .width in
+      let e = s .before .first-start .ensures ∙ ap (λ (z : ℤ). z *ℤ pos w) (toZ-ofZ w32 (l .offset .y) fits-y) in
+      ap (λ (z : ℤ). toZ w64 (ofZ w64 z)) e ∙ toZ-ofZ w64 (l .offset .y *ℤ pos w) (first-fits (l .offset .y) w fits-y (start .pre .1 .0 .0))
+
+-- and in it
+module _ (i : tie.In-loop Inv-loop μ-loop) where
+  row-small : i .before .loop .row ≤ 4096
+  row-small = omega (arith, i .loop-test .taken, start (i .before) .pre .0 .0 .1)
+
+  near : Near (toZ w64 (i .before .loop .other-from))
+  near = kept-near (l (i .before)) (begun (i .before)) (i .before .loop .inv .1) (fits-y (i .before)) (start (i .before) .pre .1 .0 .0) row-small
 
 add-to : tie.Need-add-to Inv-loop μ-loop
 add-to c =
-    let r = line-room (c .before .loop .inv) (c .loop-test .taken) in
-    omega (arith, c .before .loop .inv .long, c .before .before .before .before .before .before .before .before .good .0)
+    let r = line-room (c .before .loop .inv .0) (c .loop-test .taken) in
+    omega (arith, c .before .loop .inv .0 .long, start (c .before) .good .0)
 
-part-lay-row-end : tie.Need-part-lay-row-end Inv-loop μ-loop
-part-lay-row-end c = line-room (c .before .loop .inv) (c .loop-test .taken)
+part-line-end : tie.Need-part-line-end Inv-loop μ-loop
+part-line-end c = line-room (c .before .loop .inv .0) (c .loop-test .taken)
 
 lay-row-requires : tie.Need-lay-row-requires Inv-loop μ-loop
 lay-row-requires c κs =
-    let args = c .before .before .before .before .before .before .before .before .before .args in
-    let fits : SFits w32 (args .offset .y) = record { sfits = c .before .before .before .before .before .before .before .before .before .good .1 .1 .1 .1 .0 .1 .1 .1 .0 .1 } in
-    let y : c .before .before .before .first-met2 .result ≡ startOf (args .offset .y) = c .before .before .before .first-met2 .ensures ∙ ap startOf (toZ-ofZ w32 (args .offset .y) fits) in
-    (c .before .before .before .before .before .before .before .before .before .pre .1, (omega arith, rw y (start-small (args .offset .y) fits)))
+    let s = c .before .before in
+    (start s .pre .1, ((row-small (c .before), rw (y-met s) (start-small (l s .offset .y) (fits-y s))), rw (y-met s) (met-start (l s) (begun s) (s .loop .inv .1))))
+
+add-other-from : tie.Need-add-other-from Inv-loop μ-loop
+add-other-from c =
+    let i = c .before .before .before .before in
+    sum-fits (near i) (i .before .loop .inv .2)
 
 loop-again : tie.Need-loop-again Inv-loop μ-loop
 loop-again c =
+    let i = c .before .before .before .before in
     let lay-row = c .before .before .lay-row in
-    changed-more (c .before .before .before .before .before .loop .inv) (c .before .before .before .before .loop-test .taken) (lay-row .kept .0) (lay-row .ensures)
+    let inv = i .before .loop .inv in
+    (changed-more (inv .0) (i .loop-test .taken) (lay-row .kept .0) (lay-row .ensures), kept-more (inv .1) (sum-is (near i) (inv .2)), inv .2)
 
 returns : tie.Need-returns Inv-loop μ-loop
 returns c =
-    let args = c .before .before .before .before .before .before .before .before .args in
-    let pre = c .before .before .before .before .before .before .before .before .pre in
-    let good = c .before .before .before .before .before .before .before .before .good .1 .1 .1 .1 .0 .1 .1 in
-    let fits-x : SFits w32 (args .offset .x) = record { sfits = good .0 .1 } in
-    let fits-y : SFits w32 (args .offset .y) = record { sfits = good .1 .0 .1 } in
-    changed-all (c .before .loop .inv) (c .loop-test .left)
-    ∙ rw (c .before .before .before .before .first-met .ensures, c .before .before .first-met2 .ensures, toZ-ofZ w32 (args .offset .x) fits-x, toZ-ofZ w32 (args .offset .y) fits-y)
-    (all-rows (laying (args .size) (args .other-size) (args .offset)) (args .mask .now) (args .other .now) (pre .1 .1) (pre .0 .1))
+    let s = c .before in
+    let args = start s .args in
+    let change : Start → Start → List ℕ = λ x y. rowsChanged (rowOf x y (args .other-size) (args .other .now)) (args .size .width) (args .size .height) 0 (args .mask .now) in
+    changed-all (s .loop .inv .0) (c .loop-test .left) ∙ ap₂ change (x-met s) (y-met s)
+    ∙ all-rows (l s) (args .mask .now) (args .other .now) (start s .pre .1 .1) (start s .pre .0 .1)
 
 pub lay-spec : {M : Type 1} → statement M
 lay-spec =
     tie.close
-    (tie.spec Inv-loop μ-loop (λ c κs. search needs) (λ c κs. search needs) loop-holds add-to
-    (λ c. search needs) (λ c. search needs) part-lay-row-end lay-row-requires (λ c. search needs)
-    (λ c. search needs) loop-again (λ c. search needs) returns)
+    (tie.spec Inv-loop μ-loop (λ c κs. search needs) (λ c κs. search needs) (λ c. search needs) (λ c κs. search needs)
+    loop-holds add-to (λ c. search needs) (λ c. search needs) part-line-end lay-row-requires add-other-from
+    (λ c. search needs) (λ c. search needs) loop-again (λ c. search needs) returns)
