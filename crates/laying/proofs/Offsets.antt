@@ -29,7 +29,3 @@ start-left (negsuc n) h = refl
 pub start-right : (z : ℤ) → ltZ z (pos 0) ≡ false → record { own = 0; other = natAbs z } ≡ startOf z
 start-right (pos n) h = refl
 start-right (negsuc n) h = absurd (true≢false h)
-
-pub start-small : (z : ℤ) → SFits w32 z → startOf z .other ≤ 2147483648
-start-small (pos n) s = let b = s .sfits in omega arith
-start-small (negsuc n) s = omega arith

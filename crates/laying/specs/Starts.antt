@@ -1,6 +1,6 @@
 -- The starts of rows that laying on keeps (document 02, change 6). Definitions only.
 use mathlib.Core.Path.{_≡_}
-use Prim.Native.Nat.{ℕ, zero, suc, _*_, _<_, _≤_}
+use Prim.Native.Nat.{ℕ, zero, suc, _*_, _-_, _<_, _≤_}
 use lib.IntN.{ℤ, pos, _+ℤ_, _*ℤ_}
 use Rattle.cells.specs.declared.Size.{Size}
 use Rattle.laying.specs.declared.Start.{Start}
@@ -33,3 +33,7 @@ StartsKept = (l : Laying) (row : ℕ) → RowStarts l row (ownStart l row) (othe
 -- the other's alone, by where rows first meet: what laying a row asks of the start that it is given
 abbrev pub MetRowStart : Start → Size → ℕ → ℤ → Type 0
 MetRowStart y size row start = y .own ≤ row → rowMet y row < size .height → start ≡ pos (rowMet y row * size .width)
+
+-- how many rows meet one of the other mask's, which has `height`, from the first that does
+abbrev pub rowsMet : Start → ℕ → ℕ
+rowsMet y height = height - y .other

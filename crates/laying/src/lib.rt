@@ -7,7 +7,7 @@ ghost use lib.ListN.{length};
 ghost use Rattle.cells.specs.Cells.{cellsOf, SizeAllowed};
 ghost use Rattle.laying.specs.Laying.{laying, laidByte, layingOf};
 ghost use Rattle.laying.specs.Lines.{startOf, underOf, lineOf, rowOf};
-ghost use Rattle.laying.specs.Starts.{MetRowStart};
+ghost use Rattle.laying.specs.Starts.{rowsMet, MetRowStart};
 
 // Where a mask's corner lies in the other: its cell (column, row) meets (column + x, row + y).
 pub struct Offset {
@@ -34,6 +34,16 @@ fn first_met(offset: i32) -> Start
         own: 0,
         other: offset as usize,
     }
+}
+
+// How many rows meet one of the other mask's, from the first that does: as many as it has from there on.
+fn rows_met(y: Start, height: usize) -> usize
+    ensures { λ r. ⌜ r ≡ rowsMet y height ⌝ }
+{
+    if height <= y.other {
+        return 0;
+    }
+    height - y.other
 }
 
 // Where the row of the other mask that row 0 meets starts: below 0, if that lies before its first row.
@@ -94,18 +104,25 @@ fn lay_line(line: &mut [u8], others: &[u8], x: Start)
 }
 
 // Lays the other mask's row that a row meets, and that starts at start, on it, and clears a row that meets none.
-fn lay_row(line: &mut [u8], other: &[u8], size: Size, start: i64, row: usize, x: Start, y: Start)
+fn lay_row(
+    line: &mut [u8],
+    other: &[u8],
+    size: Size,
+    start: i64,
+    row: usize,
+    rows: usize,
+    x: Start,
+    y: Start,
+)
     requires { ⌜ SizeAllowed size × (cellsOf size ≤ length (now other)) ⌝ }
-    requires { ⌜ (row ≤ 4096) × (y .other ≤ 2147483648) ⌝ }
-    requires { ⌜ MetRowStart y size row start ⌝ }
+    requires { ⌜ MetRowStart y size row start × (rows ≡ rowsMet y (size .height)) ⌝ }
     ensures { λ _. ⌜ now (line .exit) ≡ rowOf x y size (now (other .entry)) row (now (line .entry)) ⌝ }
 {
     if row < y.own {
         cells::clear_bytes(line);
         return;
     }
-    let met = row - y.own + y.other;
-    if size.height <= met {
+    if rows <= row - y.own {
         cells::clear_bytes(line);
         return;
     }
@@ -126,13 +143,22 @@ pub fn lay(mask: &mut [u8], size: Size, other: &[u8], other_size: Size, offset: 
     let height = size.height;
     let other_width = other_size.width;
     let other_stride = other_width as i64;
+    let rows = rows_met(y, other_size.height);
     let mut from = 0;
     let mut other_from = first_start(offset.y, other_width);
     let mut row = 0;
     while row < height {
         let to = from + width;
-        let line = &mut mask[from..to];
-        lay_row(line, other, other_size, other_from, row, x, y);
+        lay_row(
+            &mut mask[from..to],
+            other,
+            other_size,
+            other_from,
+            row,
+            rows,
+            x,
+            y,
+        );
         from = to;
         other_from += other_stride;
         row += 1;

@@ -13,7 +13,6 @@ use Rattle.cells.proofs.Rows.{ChangedTo, changed-start, changed-more, changed-a
 use Rattle.laying.specs.declared.Start.{Start}
 use Rattle.laying.specs.Laying.{Laying, laying}
 use Rattle.laying.specs.Lines.{startOf, rowOf}
-use Rattle.laying.proofs.Offsets.{start-small}
 use Rattle.laying.proofs.Rows.{all-rows}
 use Rattle.laying.proofs.Starts.{Kept, kept-start, kept-more, Near, first-fits, sum-fits, sum-is, met-start, kept-near}
 use borrow.Author.Needs.{needs}
@@ -22,38 +21,46 @@ use Rattle.laying.proofs.lay.Tie as tie
 
 -- the rows before are changed, both starts are kept, and what the other's grows by is small
 abbrev Inv-loop : tie.InvT-loop
-Inv-loop mask₀ other other-size x y width height other-width other-stride from₀ other-from₀ row₀ mask from other-from row =
+Inv-loop mask₀ other other-size x y width height other-width other-stride rows from₀ other-from₀ row₀ mask from other-from row =
     ChangedTo (rowOf x y other-size other) width height mask₀ mask from row
     × Kept width (other-size .width) (toZ w64 other-from₀) row from (toZ w64 other-from)
     × (other-stride ≤ 4096)
 
 abbrev μ-loop : tie.MeasureT-loop
-μ-loop mask₀ other other-size x y width height other-width other-stride from₀ other-from₀ row₀ mask from other-from row = height - row
+μ-loop mask₀ other other-size x y width height other-width other-stride rows from₀ other-from₀ row₀ mask from other-from row = height - row
 
 loop-holds : tie.Need-loop-holds Inv-loop μ-loop
 loop-holds c =
-    let pre = c .before .before .before .before .before .before .before .before .pre in
+    let pre = c .before .before .before .before .before .before .before .before .before .pre in
     (changed-start (pre .0 .1), kept-start, omega (arith, pre .0 .0 .0, pre .1 .0 .0))
+
+-- what is given: an offset's numbers fit
+module _ (s : tie.Start Inv-loop μ-loop) where
+  given-x : SFits w32 (s .args .offset .x)
+  given-x = record { sfits = s .good .1 .1 .1 .1 .0 .1 .1 .0 .1 }
+
+  given-y : SFits w32 (s .args .offset .y)
+  given-y = record { sfits = s .good .1 .1 .1 .1 .0 .1 .1 .1 .0 .1 }
 
 -- what is known before the loop
 module _ (s : tie.At-loop Inv-loop μ-loop) where
   abbrev start : tie.Start Inv-loop μ-loop
-  start = s .before .before .before .before .before .before .before .before .before
+  start = s .before .before .before .before .before .before .before .before .before .before
 
   abbrev l : Laying
   l = laying (start .args .size) (start .args .other-size) (start .args .offset)
 
   fits-x : SFits w32 (l .offset .x)
-  fits-x = record { sfits = start .good .1 .1 .1 .1 .0 .1 .1 .0 .1 }
+  fits-x = given-x start
 
   fits-y : SFits w32 (l .offset .y)
-  fits-y = record { sfits = start .good .1 .1 .1 .1 .0 .1 .1 .1 .0 .1 }
+  fits-y = given-y start
 
-  x-met : s .before .before .before .before .before .first-met .result ≡ startOf (l .offset .x)
-  x-met = s .before .before .before .before .before .first-met .ensures ∙ ap startOf (toZ-ofZ w32 (l .offset .x) fits-x)
+  x-met : s .before .before .before .before .before .before .first-met .result ≡ startOf (l .offset .x)
+  x-met = s .before .before .before .before .before .before .first-met .ensures ∙ ap startOf (toZ-ofZ w32 (l .offset .x) fits-x)
 
-  y-met : s .before .before .before .first-met2 .result ≡ startOf (l .offset .y)
-  y-met = s .before .before .before .first-met2 .ensures ∙ ap startOf (toZ-ofZ w32 (l .offset .y) fits-y)
+  y-met : s .before .before .before .before .first-met2 .result ≡ startOf (l .offset .y)
+  y-met = s .before .before .before .before .first-met2 .ensures ∙ ap startOf (toZ-ofZ w32 (l .offset .y) fits-y)
 
   begun : toZ w64 (ofZ w64 (s .before .first-start .result)) ≡ l .offset .y *ℤ pos (l .otherSize .width)
   begun =
@@ -74,13 +81,13 @@ add-to c =
     let r = line-room (c .before .loop .inv .0) (c .loop-test .taken) in
     omega (arith, c .before .loop .inv .0 .long, start (c .before) .good .0)
 
-part-line-end : tie.Need-part-line-end Inv-loop μ-loop
-part-line-end c = line-room (c .before .loop .inv .0) (c .loop-test .taken)
+part-lay-row-end : tie.Need-part-lay-row-end Inv-loop μ-loop
+part-lay-row-end c = line-room (c .before .loop .inv .0) (c .loop-test .taken)
 
 lay-row-requires : tie.Need-lay-row-requires Inv-loop μ-loop
 lay-row-requires c κs =
     let s = c .before .before in
-    (start s .pre .1, ((row-small (c .before), rw (y-met s) (start-small (l s .offset .y) (fits-y s))), rw (y-met s) (met-start (l s) (begun s) (s .loop .inv .1))))
+    (start s .pre .1, (rw (y-met s) (met-start (l s) (begun s) (s .loop .inv .1)), s .before .before .before .rows-met .ensures))
 
 add-other-from : tie.Need-add-other-from Inv-loop μ-loop
 add-other-from c =
@@ -105,6 +112,6 @@ returns c =
 pub lay-spec : {M : Type 1} → statement M
 lay-spec =
     tie.close
-    (tie.spec Inv-loop μ-loop (λ c κs. search needs) (λ c κs. search needs) (λ c. search needs) (λ c κs. search needs)
-    loop-holds add-to (λ c. search needs) (λ c. search needs) part-line-end lay-row-requires add-other-from
+    (tie.spec Inv-loop μ-loop (λ c κs. search needs) (λ c κs. search needs) (λ c. search needs) (λ c κs. search needs) (λ c κs. search needs)
+    loop-holds add-to (λ c. search needs) (λ c. search needs) part-lay-row-end lay-row-requires add-other-from
     (λ c. search needs) (λ c. search needs) loop-again (λ c. search needs) returns)
