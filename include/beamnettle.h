@@ -57,7 +57,7 @@ enum {
     BEAMNETTLE_UNKNOWN_VERB = 8,            /* a verb byte above 5 */
     BEAMNETTLE_POSITIONS_MISMATCH = 9,      /* verbs need more positions than given, or fewer */
     BEAMNETTLE_TOO_MANY_VERBS = 11,         /* over 256 verbs */
-    BEAMNETTLE_TOO_MANY_BOXES = 12,         /* over 256 boxes in a touch list */
+    BEAMNETTLE_TOO_MANY_BOXES = 12,         /* over 4,096 boxes in a touch list */
     BEAMNETTLE_NOT_PGM = 13,                /* a PGM mark, number or whitespace at fault, or a width or height of 0 */
     BEAMNETTLE_WRONG_DEPTH = 14,            /* a PGM depth other than 255 */
     BEAMNETTLE_WRONG_RASTER = 15,           /* a PGM raster of more bytes than width * height, or of fewer */
@@ -252,7 +252,7 @@ uint8_t beamnettle_holds(const float *coverage, size_t coverage_length, const fl
 
 /* The lowest place whose box a point touches: a box whose coverage exists and whose distance at the point is
  * at most 0.5, the allowance that beamnettle_contains has: the print lays ink to half a fringe width past the
- * outline. At most 256 boxes are taken, and all of them are checked before a place is named.
+ * outline. At most 4,096 boxes are taken, and all of them are checked before a place is named.
  * Returns 256 + the place, counted from 0; 35 where there is no such box; or 12, then 1 or 2 for each box in
  * order, then 1 for the fringe or the point. */
 uint32_t beamnettle_touch(const struct beamnettle_box *boxes, size_t boxes_length, float fringe, float x, float y);

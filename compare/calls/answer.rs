@@ -26,6 +26,7 @@ const BUFFER_TOO_LONG: Bad = "a buffer has at most 65,536 bytes";
 const TOO_MANY_FLOATS: Bad = "a line takes at most 2,573 floats";
 const TOO_MANY_VERBS: Bad = "an outline's line takes at most 512 verbs";
 const TOO_MANY_BOXES: Bad = "a touch list's line takes at most 257 boxes";
+const TOO_MANY_COPIES: Bad = "a touch list of copies has at most 4,097 boxes";
 
 /// The largest number that the program reads.
 pub const LARGEST: usize = 2_684_354_559;
@@ -178,9 +179,28 @@ fn touch(f: &mut Fields) -> Result<String, Bad> {
     let boxes = (0..count)
         .map(|_| floats(f))
         .collect::<Result<Vec<[f32; 10]>, _>>()?;
+    touched(&boxes, f)
+}
+
+/// Copies of a box, with another at its place, if there is such a place.
+fn touchn(f: &mut Fields) -> Result<String, Bad> {
+    let count = number(f)?;
+    if count > 4097 {
+        return Err(TOO_MANY_COPIES);
+    }
+    let mut boxes = vec![floats(f)?; count];
+    let (place, other) = (number(f)?, floats(f)?);
+    if place < count {
+        boxes[place] = other;
+    }
+    touched(&boxes, f)
+}
+
+/// The answer to a touch list, whose fringe and point are yet to be read.
+fn touched(boxes: &[Box10], f: &mut Fields) -> Result<String, Bad> {
     let (fringe, point) = (float(f)?, floats(f)?);
     ended(f)?;
-    Ok(answered(calls::touch(&boxes, fringe, point), |place| {
+    Ok(answered(calls::touch(boxes, fringe, point), |place| {
         place.map_or("noframe".to_string(), |place| format!("frame {place}"))
     }))
 }
@@ -343,6 +363,7 @@ impl State {
             "fit_with_cut" => fit_with_cut(f),
             "upright_rect" => upright_rect(f),
             "touch" => touch(f),
+            "touchn" => touchn(f),
             name => on_boxes(name, f),
         }
     }

@@ -6,7 +6,7 @@ use crate::{
     holds::holds,
     pgm::pgms,
     scissors::{bad_scissors, scissors},
-    touches::touches,
+    touches::{sheets, touches},
 };
 use std::fmt::Write;
 
@@ -111,6 +111,14 @@ impl Random {
     }
 }
 
+/// Floats as fields of a line, every NaN alike.
+pub fn hex(floats: &[f32]) -> String {
+    let bits = |x: &f32| if x.is_nan() { f32::NAN } else { *x }.to_bits();
+    floats.iter().fold(String::new(), |text, x| {
+        format!("{text} {:08x}", bits(x))
+    })
+}
+
 #[derive(Default)]
 pub struct List(String);
 
@@ -122,11 +130,7 @@ impl List {
 
     /// A call, with every NaN written as one.
     pub fn call(&mut self, name: &str, floats: &[f32]) {
-        let bits = |x: &f32| if x.is_nan() { f32::NAN } else { *x }.to_bits();
-        let text = floats.iter().fold(name.to_string(), |text, x| {
-            format!("{text} {:08x}", bits(x))
-        });
-        self.line(&text);
+        self.line(&format!("{name}{}", hex(floats)));
     }
 
     /// A call on an outline, with other floats behind its positions.
@@ -634,7 +638,7 @@ pub fn list() -> String {
     let mut list = List::default();
     for part in [
         examples, numbers, improper, masks, layings, offsets, outlines, corners, random, chains,
-        touches, scissors, holds, bad_lines, pgms, curves, row_starts,
+        touches, scissors, holds, bad_lines, pgms, curves, row_starts, sheets,
     ] {
         part(&mut list);
     }

@@ -1,5 +1,5 @@
 //! Touch lists.
-use crate::list::{up, upright, with, List, Random, LARGEST};
+use crate::list::{hex, up, upright, with, List, Random, LARGEST};
 
 type Box10 = [f32; 10];
 
@@ -7,6 +7,20 @@ impl List {
     pub fn touch(&mut self, boxes: &[Box10], fringe: f32, point: [f32; 2]) {
         let floats = [&boxes.concat()[..], &[fringe], &point].concat();
         self.call(&format!("touch {}", boxes.len()), &floats);
+    }
+
+    /// So many copies of a box, with another at its place.
+    fn touchn(
+        &mut self,
+        n: usize,
+        copied: Box10,
+        at: usize,
+        other: Box10,
+        fringe: f32,
+        point: [f32; 2],
+    ) {
+        let floats = [&other[..], &[fringe], &point].concat();
+        self.call(&format!("touchn {n}{} {at}", hex(&copied)), &floats);
     }
 }
 
@@ -180,6 +194,87 @@ fn random(l: &mut List) {
         boxes.insert(r.below(boxes.len() as u64 + 1) as usize, r.boxed());
         l.touch(&boxes, 1.0, [one[4], one[5]]);
     }
+}
+
+// ---- long lists
+
+/// The corners of document 02's change 7.
+fn sheet_corners(l: &mut List) {
+    l.line("# touch: a sheet of four thousand frames");
+    let one = upright(0.0, 0.0, [4.0; 2], [0.0; 2]);
+    let elsewhere = upright(64.0, 0.0, [4.0; 2], [0.0; 2]);
+    let (faulty, no_number) = (with(one, 6, -1.0), with(one, 0, f32::NAN));
+    l.touchn(4096, elsewhere, 4095, one, 1.0, [0.0; 2]);
+    l.touchn(4097, elsewhere, 4096, one, 1.0, [0.0; 2]);
+    l.touchn(257, elsewhere, 256, one, 1.0, [0.0; 2]);
+    l.touchn(4097, elsewhere, 0, no_number, 1.0, [0.0; 2]);
+    l.touchn(4097, no_number, 0, faulty, f32::NAN, [f32::NAN; 2]);
+    for bad in [faulty, no_number] {
+        l.touchn(300, one, 299, bad, 1.0, [0.0; 2]);
+        l.touchn(300, elsewhere, 299, bad, f32::NAN, [0.0; 2]);
+        l.touchn(4096, one, 4095, bad, 1.0, [0.0; 2]);
+        l.touchn(4096, bad, 4095, one, 1.0, [0.0; 2]);
+    }
+    l.touchn(4096, one, 4095, one, f32::NAN, [0.0; 2]);
+    l.touchn(4096, one, 4095, one, 1.0, [0.0, up(LARGEST)]);
+}
+
+/// Lists about a byte's and the limit's lengths, a box at each end and about a byte's places.
+fn sheet_places(l: &mut List) {
+    l.line("# touch: lengths and places");
+    let one = upright(0.0, 0.0, [4.0; 2], [0.0; 2]);
+    let elsewhere = upright(64.0, 0.0, [4.0; 2], [0.0; 2]);
+    for n in [
+        0, 1, 2, 255, 256, 257, 258, 512, 1024, 4094, 4095, 4096, 4097,
+    ] {
+        for at in [0, 1, 254, 255, 256, 257, 511, 512, n.max(1) - 1, n] {
+            l.touchn(n, elsewhere, at, one, 1.0, [0.0; 2]);
+            l.touchn(n, one, at, with(one, 8, 5.0), 1.0, [0.0; 2]);
+        }
+        l.touchn(n, one, 0, elsewhere, 1.0, [0.0; 2]);
+    }
+}
+
+fn random_sheets(l: &mut List) {
+    let r = &mut Random(0x1405_7b7e_f767_814f);
+    l.line("# random sheets");
+    for _ in 0..100 {
+        let n = 1 + r.below(4097);
+        let at = r.below(n) as usize;
+        let (copied, other) = (r.boxed(), r.boxed());
+        l.touchn(n as usize, copied, at, other, 1.0, [other[4], other[5]]);
+    }
+}
+
+fn bad_sheets(l: &mut List) {
+    l.line("# lines that are no call: sheets");
+    let copied = hex(&upright(0.0, 0.0, [2.0, 1.0], [0.0; 2]));
+    for line in [
+        "touchn".to_string(),
+        "touchn -1".to_string(),
+        "touchn 4098".to_string(),
+        "touchn 99999999999".to_string(),
+        "touchn 1".to_string(),
+        format!("touchn 1{}", &copied[..copied.len() - 9]),
+        format!("touchn 1{}", &copied[..copied.len() - 1]),
+        format!("touchn 1{copied}"),
+        format!("touchn 1{copied} -1"),
+        format!("touchn 1{copied} 99999999999"),
+        format!("touchn 1{copied} 0"),
+        format!("touchn 1{copied} 0{copied} 3f800000 00000000"),
+        format!("touchn 1{copied} 0{copied} 3f800000 00000000 0000000g"),
+        format!("touchn 1{copied} 0{copied} 3f800000 00000000 00000000 0"),
+        format!("touchn 1{copied} 2684354559{copied} 3f800000 00000000 00000000"),
+    ] {
+        l.line(&line);
+    }
+}
+
+pub fn sheets(l: &mut List) {
+    sheet_corners(l);
+    sheet_places(l);
+    random_sheets(l);
+    bad_sheets(l);
 }
 
 pub fn touches(l: &mut List) {

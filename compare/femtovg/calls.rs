@@ -337,9 +337,12 @@ pub fn contains(c: Coverage11, b: Box10) -> Result<bool, Refused> {
     Ok(covering(&c).contains(&boxed(b)))
 }
 
+/// The most boxes of a touch list, since document 02's change 7.
+const MOST_BOXES: usize = 4096;
+
 /// The places of all boxes that hold a touch: at a distance of at most 0.5.
 pub fn touched(boxes: &[Box10], fringe: f32, point: [f32; 2]) -> Result<Vec<usize>, Refused> {
-    if boxes.len() > 256 {
+    if boxes.len() > MOST_BOXES {
         return Err(BOXES);
     }
     boxes.iter().try_for_each(check_box)?;

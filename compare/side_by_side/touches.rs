@@ -86,6 +86,38 @@ fn pile(random: &mut Random) -> Vec<Box10> {
     (0..n).map(another).collect()
 }
 
+/// A box that holds its centre, if one is found soon.
+fn held(random: &mut Random, fringe: f32) -> Box10 {
+    let mut one = proper(random);
+    for _ in 0..20 {
+        if calls::touch(&[one], fringe, [one[4], one[5]]) == Ok(Some(0)) {
+            break;
+        }
+        one = proper(random);
+    }
+    one
+}
+
+/// A long list: a few kinds of boxes, most of them far away, and at a few places the box near which the point is to be.
+fn sheet(random: &mut Random, fringe: f32) -> (Vec<Box10>, Box10) {
+    let n = match random.below(4) {
+        0 => random.pick(&[4095, 4096, 4097, 4100]),
+        1 => random.pick(&[256, 257, 258, 511, 512, 513]),
+        _ => 1 + random.below(4100),
+    };
+    let far = [(); 8].map(|_| {
+        let mut one = proper(random);
+        one[4] += random.pick(&[-500_000.0, 500_000.0]);
+        calls::bounds(one).map_or_else(|_| proper(random), |_| one)
+    });
+    let mut boxes: Vec<Box10> = (0..n).map(|_| random.pick(&far)).collect();
+    let aim = held(random, fringe);
+    for _ in 0..random.pick(&[1, 1, 2, 4]) {
+        boxes[random.below(n)] = aim;
+    }
+    (boxes, aim)
+}
+
 /// Boxes that lie in one another's way, on one another, or so far apart that a point touches few.
 fn boxes(random: &mut Random) -> Vec<Box10> {
     if random.one_in(3) {
@@ -100,21 +132,31 @@ fn boxes(random: &mut Random) -> Vec<Box10> {
     boxes
 }
 
-pub fn list(random: &mut Random) -> Call {
-    let mut boxes = boxes(random);
+/// A list, and a box of it near which the point is to be.
+fn aimed(random: &mut Random, fringe: f32) -> (Vec<Box10>, Box10) {
+    if random.one_in(12) {
+        return sheet(random, fringe);
+    }
+    let boxes = boxes(random);
     let aim = if boxes.is_empty() {
         shape(random)
     } else {
         boxes[random.below(boxes.len())]
     };
+    (boxes, aim)
+}
+
+pub fn list(random: &mut Random) -> Call {
+    let fringe = fringe(random);
+    let (mut boxes, aim) = aimed(random, fringe);
     if random.one_in(4) && !boxes.is_empty() {
         for _ in 0..random.pick(&[1, 1, 2, 3]) {
             let at = random.below(boxes.len());
             spoil(random, &mut boxes[at]);
         }
     }
-    let fringe = fringe(random);
     let point = match random.below(6) {
+        _ if boxes.len() > 256 && random.one_in(2) => [aim[4], aim[5]],
         0 => on_frame(random, aim),
         1 | 2 => at_edge(random, aim, fringe),
         _ => near(random, aim),
@@ -136,6 +178,9 @@ pub struct Counts {
     above: u64,
     /// refused lists in which a box before the first at fault holds the touch
     behind: u64,
+    /// lists of more than 256 boxes, and those whose place is more than 255
+    long: u64,
+    past_byte: u64,
 }
 
 impl Counts {
@@ -152,6 +197,8 @@ impl Counts {
         self.several += (places.len() >= 2) as u64;
         self.ten += (places.len() >= 10) as u64;
         self.above += (places.len() >= 2 && places[0] > 0) as u64;
+        self.long += (boxes.len() > 256) as u64;
+        self.past_byte += places.first().is_some_and(|place| *place > 255) as u64;
         let faulty = |one: &Box10| calls::bounds(*one).is_err();
         if let Some(at) = boxes.iter().position(faulty) {
             let before = calls::touch(&boxes[..at], *fringe, *point);
@@ -165,7 +212,12 @@ impl Counts {
             ten,
             above,
             behind,
+            long,
+            past_byte,
         } = self;
+        println!(
+            "touch lists of more than 256 boxes: {long}; the place more than 255: {past_byte}"
+        );
         println!(
             "touch lists in which several boxes hold the touch: {several} (ten or more: {ten}, place not 0: {above}); refused behind a box that holds it: {behind}"
         );

@@ -126,7 +126,7 @@ abbrev pub testNumber : TestAnswer → ℕ
 testNumber (test.Done found) = cond found (ordinaryNumber yes) (ordinaryNumber no)
 testNumber (test.Refused f) = numberOf f
 
--- the place 'as a byte counted from 0', or "no frame"
+-- the place, 'a 16-bit number' (document 02, change 7), 'counted from 0', or "no frame"
 abbrev pub touchNumber : TouchAnswer → ℕ
 touchNumber (touched.Frame k) = ordinaryNumber (counted k)
 touchNumber touched.NoFrame = ordinaryNumber noFrame

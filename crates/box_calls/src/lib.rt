@@ -57,3 +57,74 @@ pub fn touch(line: &[u8; MOST_LINE], at: usize) -> Problem {
     answers::touch(touched(&floats, n));
     Problem::Nothing
 }
+
+// ---- a touch list of copies
+
+// The most boxes of a sheet, one more than a list that is taken, and their floats.
+const MOST_SHEET: usize = 4097;
+
+const SHEET_FLOATS: usize = 40970;
+
+// Puts a box, ten floats, again and again from a box's first float up to another's.
+fn put_box(sheet: &mut [f32; SHEET_FLOATS], from: usize, to: usize, b: &[f32; MOST_FLOATS])
+    requires { ⌜ to ≤ 40970 ⌝ }
+{
+    let mut i = from;
+    while i < to {
+        sheet[i] = b[i % 10];
+        i += 1;
+    }
+}
+
+// The touch of a sheet's first n boxes, with the fringe and the point behind the box in f.
+fn touched_on(sheet: &[f32; SHEET_FLOATS], n: usize, f: &[f32; MOST_FLOATS]) -> TouchAnswer
+    requires { ⌜ n ≤ 4097 ⌝ }
+{
+    touch::touch_floats(sheet, n, f[10], f[11], f[12])
+}
+
+// The touch of n copies of a box, with another at its place, if there is such a place.
+fn touched_copies(
+    n: usize,
+    copied: &[f32; MOST_FLOATS],
+    place: usize,
+    other: &[f32; MOST_FLOATS],
+) -> TouchAnswer
+    requires { ⌜ n ≤ 4097 ⌝ }
+{
+    let mut sheet = [0f32; SHEET_FLOATS];
+    put_box(&mut sheet, 0, n * 10, copied);
+    if place < n {
+        put_box(&mut sheet, place * 10, place * 10 + 10, other);
+    }
+    touched_on(&sheet, n, other)
+}
+
+pub fn touchn(line: &[u8; MOST_LINE], at: usize) -> Problem {
+    let mut copied = [0f32; MOST_FLOATS];
+    let mut other = [0f32; MOST_FLOATS];
+    let count = fields::size_at(line, at);
+    let n = count.value;
+    if !count.good {
+        return Problem::NotANumber;
+    }
+    if n > MOST_SHEET {
+        return Problem::TooManyCopies;
+    }
+    let list = fields::floats(line, count.at, 10, &mut copied);
+    let problem = list.problem;
+    let Problem::Nothing = problem else {
+        return problem;
+    };
+    let place = fields::size_at(line, list.at);
+    if !place.good {
+        return Problem::NotANumber;
+    }
+    let list = fields::last_floats(line, place.at, 13, &mut other);
+    let problem = list.problem;
+    let Problem::Nothing = problem else {
+        return problem;
+    };
+    answers::touch(touched_copies(n, &copied, place.value, &other));
+    Problem::Nothing
+}

@@ -12,12 +12,17 @@ use Rattle.fault.specs.Check.{_andThen_}
 use Rattle.shape.specs.declared.RoundedBox.{RoundedBox}
 use Rattle.shape.specs.Checks.{boxCheckOf}
 
--- number 12: 'over 256 boxes in a touch list'
+-- Document 02, change 7: 'A touch list may have up to 4,096 boxes.' The limit of every list of boxes
 abbrev pub mostBoxes : ℕ
-mostBoxes = 256
+mostBoxes = 4096
 
+-- number 12, of n boxes where at most `most` are taken
+abbrev pub countCheckWithin : ℕ → ℕ → Check
+countCheckWithin most n = cond (ltb most n) (check.Refused fault.TooManyBoxes) check.Pass
+
+-- 'Number 12 is now for more than 4,096'
 abbrev pub countCheckOf : ℕ → Check
-countCheckOf n = cond (ltb mostBoxes n) (check.Refused fault.TooManyBoxes) check.Pass
+countCheckOf n = countCheckWithin mostBoxes n
 
 -- 'per box 1, 2, first box before second'
 abbrev pub boxesCheckOf : List RoundedBox → Check

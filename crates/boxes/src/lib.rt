@@ -18,7 +18,7 @@ use geometry::Transform2D;
 use shape::RoundedBox;
 
 // The most boxes of a list.
-pub const MOST_BOXES: usize = 256;
+pub const MOST_BOXES: usize = 4096;
 
 // What is asked of each box of a list.
 pub enum Ask {

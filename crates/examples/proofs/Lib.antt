@@ -1,4 +1,6 @@
--- Shown: the theorem `starred-shown`. Touched: `edges-take-a-finger`, `first-of-several`. Curved: `curves-fit`.
+-- Shown: the theorem `starred-shown`. Touched: `edges-take-a-finger`, `first-of-several`. Sheet: `sheet-of-frames`.
+-- Curved: `curves-fit`.
 pub mod Shown
 pub mod Touched
+pub mod Sheet
 pub mod Curved

@@ -1,12 +1,14 @@
 -- Document 02, change 2: what the call on one box answers half a fringe width past the outline and one float further;
--- change 3: what the call on a list answers where several boxes hold the touch. Definitions only; proofs/Touched.antt
--- computes them.
+-- change 3: what the call on a list answers where several boxes hold the touch; change 7: what it answers to long lists.
+-- Definitions only; proofs/Touched.antt and proofs/Sheet.antt show them.
 use mathlib.Core.Path.{_≡_}
 use mathlib.Core.Bool.{Bool, true, false}
-use mathlib.Core.List.{List, [], _∷_}
+use mathlib.Core.List.{List, [], _∷_, _++_}
+use Prim.Native.Nat.{ℕ}
 use lib.Ieee.{Float, nan, binary32, ofBits}
+use lib.ListN.{replicate}
 use Rattle.float.specs.Ops.{f0, f1, f2, f-1}
-use Rattle.fault.specs.declared.Fault.the-variants.{NumberOutOfRange, ImproperBox}
+use Rattle.fault.specs.declared.Fault.the-variants.{NumberOutOfRange, ImproperBox, TooManyBoxes}
 use Rattle.geometry.specs.declared.Position.{Position}
 use Rattle.shape.specs.declared.RoundedBox.{RoundedBox}
 use Rattle.shape.specs.declared.TestAnswer.the-variants.{Done}
@@ -96,3 +98,18 @@ pub record FirstOfSeveral : Type 0 where
   -- the first holds it, and the list is refused for the second, or for its fringe
   pub at-fault : Names (square ∷ upright f-1 f4 f0 ∷ []) f1 (Refused ImproperBox)
   pub no-fringe : Names (square ∷ square ∷ []) nan (Refused NumberOutOfRange)
+
+-- n boxes alike, and one behind them, at place n
+abbrev pub behind : ℕ → RoundedBox → RoundedBox → List RoundedBox
+behind n b last = replicate n b ++ last ∷ []
+
+pub record SheetOfFrames : Type 0 where
+  -- 4,096 boxes, the last alone touched
+  pub last : Names (behind 4095 sliver square) f1 (Frame 4095)
+  -- one box more, and the same where a box before is no number
+  pub one-more : Names (behind 4096 sliver square) f1 (Refused TooManyBoxes)
+  pub one-more-first : Names (uprightAt nan f4 f4 f0 ∷ behind 4095 square square) f1 (Refused TooManyBoxes)
+  -- place 256 of 257 boxes: a byte would say 0
+  pub past-a-byte : Names (behind 256 sliver square) f1 (Frame 256)
+  -- 300 boxes, of which all are touched but the last, which is at fault
+  pub late-fault : Names (behind 299 square (upright f-1 f4 f0)) f1 (Refused ImproperBox)

@@ -27,7 +27,7 @@ pub enum Fault {
     PositionsMismatch,
     // 11: over 256 verbs
     TooManyVerbs,
-    // 12: over 256 boxes in a touch list
+    // 12: over 4,096 boxes in a touch list
     TooManyBoxes,
     // 13: a wrong mark, a missing or bad number or one of over nine digits, missing whitespace, a comment,
     // or a width or height of 0

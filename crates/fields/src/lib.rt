@@ -5,7 +5,7 @@ ghost use mathlib.Core.Path.{_≡_};
 pub const MOST_LINE: usize = 262144;
 // The most words of a drawing.
 pub const MOST_WORDS: usize = 16384;
-// The most boxes of a touch list: one more than a list that is taken.
+// The most boxes of a touch list's line.
 pub const MOST_BOXES: usize = 257;
 // The most floats: those of the most boxes, a fringe and a point.
 pub const MOST_FLOATS: usize = 2573;
@@ -29,6 +29,7 @@ pub enum Problem {
     TooManyFloats,
     TooManyVerbs,
     TooManyBoxes,
+    TooManyCopies,
     ScratchTooLong,
 }
 
@@ -388,7 +389,7 @@ fn next_float(line: &[u8; MOST_LINE], out: &mut [f32; MOST_FLOATS], l: List) -> 
 }
 
 // So many floats.
-fn floats(
+pub fn floats(
     line: &[u8; MOST_LINE],
     from: usize,
     wanted: usize,

@@ -157,6 +157,9 @@ pub fn answer(line: &[u8; MOST_LINE], name: Field) -> Problem {
     if fields::is(line, name, b"touch") {
         return box_calls::touch(line, name.end);
     }
+    if fields::is(line, name, b"touchn") {
+        return box_calls::touchn(line, name.end);
+    }
     match call(line, name) {
         FloatCall::Unknown => answer_outline(line, name),
         known => of_floats(line, known, name.end),

@@ -1,4 +1,4 @@
--- What is found becomes the answer of the call, and a place that is found is a byte. Assumes nothing.
+-- What is found becomes the answer of the call, and a place that is found is below the limit. Assumes nothing.
 use Prim.Native.Nat.{ℕ, suc}
 use mathlib.Core.Path.{_≡_, refl}
 use mathlib.Core.Bool.{Bool, true, false, cond}
@@ -24,7 +24,7 @@ use Rattle.touch.specs.declared.TouchAnswer.the-variants.{Frame, Refused
 use Rattle.touch.specs.Touch.{firstTouchedFrom, touchCall}
 use Rattle.touch.specs.Finish.{touchAsk, PlaceFits, answerOf, finishOf}
 
--- ---- a place is a byte
+-- ---- a place is below the limit
 module _ (bs : List RoundedBox) (q : Ask) where
   fits : listCheckOf bs ≡ check.Pass → (r : Found) → firstFrom 0 bs q ≡ r → PlaceFits r
   fits e (found.At k) h = lt-of-lt-of-le (lowest-place .within bs q k (lowest-place .holds bs q k h)) (few bs e)

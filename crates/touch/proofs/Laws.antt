@@ -8,30 +8,31 @@ use native.Mathlib.Omega.{arith}
 use lib.Dec.{ltb}
 use lib.Ieee.{Float}
 use lib.ListN.{length}
-use borrow.Author.Tests.{ltb-true, ltb-false}
+use borrow.Author.Tests.{ltb-true, ltb-false, lt-ltb, le-ltb}
 use Rattle.fault.specs.declared.Fault.{Fault}
+use Rattle.fault.specs.declared.Fault.the-variants.{TooManyBoxes}
 use Rattle.fault.specs.declared.Check.{Check}
 use Rattle.fault.specs.declared.Check.the-variants as check
 use Rattle.fault.specs.Check.{answerUnless}
 use Rattle.fault.proofs.Passing.{both-pass}
 use Rattle.geometry.specs.declared.Position.{Position}
 use Rattle.shape.specs.declared.RoundedBox.{RoundedBox}
-use Rattle.shape.specs.Checks.{fringeCheckOf, pointCheckOf}
+use Rattle.shape.specs.Checks.{inRangeOf, bothInRangeOf, numbersCheckOf, fringeCheckOf, pointCheckOf}
 use Rattle.covering.specs.Touches.{touchesOf}
 use Rattle.covering.proofs.Laws.{still-touched}
 use Rattle.boxes.specs.declared.Ask.{Ask}
 use Rattle.boxes.specs.declared.Found.{Found}
 use Rattle.boxes.specs.declared.Found.the-variants as found
-use Rattle.boxes.specs.Checks.{mostBoxes}
+use Rattle.boxes.specs.Checks.{mostBoxes, listCheckOf}
 use Rattle.boxes.specs.First.{firstFrom}
 use Rattle.boxes.specs.Laws.{asksAt}
-use Rattle.boxes.proofs.Few.{few}
+use Rattle.boxes.proofs.Few.{few, Twelve, of-first, too-many-exactly-when}
 use Rattle.boxes.proofs.First.{lowest-place}
 use Rattle.touch.specs.declared.TouchAnswer.{TouchAnswer}
 use Rattle.touch.specs.declared.TouchAnswer.the-variants.{Frame, NoFrame, Refused}
 use Rattle.touch.specs.Touch.{touchCheckOf, firstTouchedFrom, touchCall}
 use Rattle.touch.specs.Finish.{touchAsk, answerOf}
-use Rattle.touch.specs.Laws.{touchesAt, LowestTouched, FrameExactlyWhen, NoFrameExactlyWhen, RefusedExactlyWhen, FoundRule, RuleUnless, AsBefore, StillNamed}
+use Rattle.touch.specs.Laws.{touchesAt, LowestTouched, FrameExactlyWhen, NoFrameExactlyWhen, RefusedExactlyWhen, TwelveExactlyWhen, ShortListsAsBefore, FoundRule, RuleUnless, AsBefore, StillNamed}
 use Rattle.touch.proofs.Finished.{as-found}
 
 -- a list that is asked and a list that is touched speak of the same places
@@ -116,7 +117,7 @@ module _ (bs : List RoundedBox) (fringe : Float) (p : Position) where
   few-touched e = few bs (both-pass _ (fringeCheckOf fringe) (both-pass _ (pointCheckOf p) e .0) .0)
 
   named : (k : ℕ) → touchCall bs fringe p ≡ Frame k
-      → (refusal ≡ check.Pass) × LowestTouched bs fringe p k × (k < length bs) × (k < 256)
+      → (refusal ≡ check.Pass) × LowestTouched bs fringe p k × (k < length bs) × (k < mostBoxes)
   named k e =
       let g = placed refusal first k e in
       let h = subst Told (g .1) first-told in
@@ -166,6 +167,29 @@ no-frame-exactly-when = record { only = no-frame; always = names-no-frame }
 
 pub refused-exactly-when : RefusedExactlyWhen
 refused-exactly-when = record { only = λ bs fringe p. refused bs fringe p (refusal bs fringe p); always = refuses }
+
+-- ---- the number of boxes
+
+of-numbers : (good : Bool) → Twelve (numbersCheckOf good) → ⊥
+of-numbers true e = let z : _≡_ {A = ℕ} 0 1 = cc in absurd (omega arith)
+of-numbers false e = let z : _≡_ {A = ℕ} 0 1 = cc in absurd (omega arith)
+
+of-list : (bs : List RoundedBox) (fringe : Float) (p : Position) → Twelve (touchCheckOf bs fringe p) → Twelve (listCheckOf bs)
+of-list bs fringe p e =
+    of-first _ (fringeCheckOf fringe) (of-numbers (inRangeOf fringe)) (of-first _ (pointCheckOf p) (of-numbers (bothInRangeOf (p .x) (p .y))) e)
+
+pub twelve-exactly-when : TwelveExactlyWhen
+twelve-exactly-when = record {
+  only = λ bs fringe p e. too-many-exactly-when .only bs (of-list bs fringe p (refused-exactly-when .only bs fringe p TooManyBoxes e));
+  always = λ bs fringe p l. rw (lt-ltb 4096 (length bs) l);
+}
+
+pub short-lists-as-before : (bs : List RoundedBox) (fringe : Float) (p : Position) → ShortListsAsBefore bs fringe p
+short-lists-as-before bs fringe p = record {
+  same = λ few. let fewer : length bs ≤ mostBoxes = omega arith in rw (le-ltb _ _ few, le-ltb _ _ fewer);
+  byte = λ few k e. lt-of-lt-of-le (frame-exactly-when .only bs fringe p k e .2) few;
+  longer = λ l. rw (lt-ltb _ _ l);
+}
 
 pub as-before : (bs : List RoundedBox) (fringe : Float) (p : Position) → AsBefore bs fringe p
 as-before bs fringe p = let c = touchCheckOf bs fringe p in record {

@@ -10,6 +10,7 @@ use Rattle.boxes.specs.declared.Ask.{Ask}
 use Rattle.boxes.specs.declared.Ask.the-variants as ask
 use Rattle.boxes.specs.declared.Found.{Found}
 use Rattle.boxes.specs.declared.Found.the-variants as found
+use Rattle.boxes.specs.Checks.{mostBoxes}
 use Rattle.boxes.specs.Walk.{refusalOf}
 use Rattle.touch.specs.declared.TouchAnswer.{TouchAnswer}
 use Rattle.touch.specs.declared.TouchAnswer.the-variants.{Frame, NoFrame, Refused}
@@ -21,9 +22,9 @@ touchAsk fringe x y = ask.Touch fringe x y
 abbrev pub finishCheckOf : Found → Float → Position → Check
 finishCheckOf r fringe p = refusalOf r andThen fringeCheckOf fringe andThen pointCheckOf p
 
--- a place that is found is a byte
+-- a place that is found is below the limit: 16 bits hold it
 abbrev pub PlaceFits : Found → Type 0
-PlaceFits (found.At k) = k < 256
+PlaceFits (found.At k) = k < mostBoxes
 PlaceFits found.Nowhere = Unit
 PlaceFits (found.Refused f) = Unit
 

@@ -1,5 +1,5 @@
 -- The answer of a touch read back: which place is named, when 'no frame' comes and when a list is refused; and what
--- held of it when document 01 left the place free. Proved in proofs/Laws.antt.
+-- held of it before document 02's changes 7, 3 and 2. Proved in proofs/Laws.antt.
 use Prim.Native.Nat.{ℕ, zero, suc, _<_, _≤_}
 use mathlib.Core.Path.{_≡_}
 use mathlib.Core.Bool.{Bool, true, false}
@@ -7,15 +7,17 @@ use mathlib.Core.List.{List, [], _∷_, _++_}
 use lib.Ieee.{Float}
 use lib.ListN.{length}
 use Rattle.fault.specs.declared.Fault.{Fault}
+use Rattle.fault.specs.declared.Fault.the-variants.{TooManyBoxes}
 use Rattle.fault.specs.declared.Check.{Check}
 use Rattle.fault.specs.declared.Check.the-variants as check
 use Rattle.geometry.specs.declared.Position.{Position}
 use Rattle.shape.specs.declared.RoundedBox.{RoundedBox}
+use Rattle.boxes.specs.Checks.{mostBoxes}
 use Rattle.covering.specs.Touches.{touchesOf}
 use Rattle.covering.specs.Laws.{onOrInsideOf}
 use Rattle.touch.specs.declared.TouchAnswer.{TouchAnswer}
 use Rattle.touch.specs.declared.TouchAnswer.the-variants.{Frame, NoFrame, Refused}
-use Rattle.touch.specs.Touch.{touchCheckOf, touchCall}
+use Rattle.touch.specs.Touch.{touchCheckOf, touchWithin, touchCall}
 
 -- at place k, counted from 0, there is a box 'whose coverage exists and whose distance at the point is at most' 0.5
 abbrev pub touchesAt : List RoundedBox → Float → Position → ℕ → Bool
@@ -28,10 +30,10 @@ pub record LowestTouched (bs : List RoundedBox) (fringe : Float) (p : Position) 
   pub touched : touchesAt bs fringe p k ≡ true
   pub none-below : (j : ℕ) → j < k → touchesAt bs fringe p j ≡ false
 
--- a list that is not refused gets a place exactly when it is the lowest that is touched; it is a box's, and a byte
+-- a list that is not refused gets a place exactly when it is the lowest that is touched; it is a box's, below the limit
 pub record FrameExactlyWhen : Type 0 where
   pub only : (bs : List RoundedBox) (fringe : Float) (p : Position) (k : ℕ) → touchCall bs fringe p ≡ Frame k
-      → (touchCheckOf bs fringe p ≡ check.Pass) × LowestTouched bs fringe p k × (k < length bs) × (k < 256)
+      → (touchCheckOf bs fringe p ≡ check.Pass) × LowestTouched bs fringe p k × (k < length bs) × (k < mostBoxes)
   pub always : (bs : List RoundedBox) (fringe : Float) (p : Position) (k : ℕ)
       → touchCheckOf bs fringe p ≡ check.Pass → LowestTouched bs fringe p k → touchCall bs fringe p ≡ Frame k
 
@@ -49,6 +51,23 @@ pub record RefusedExactlyWhen : Type 0 where
       → touchCheckOf bs fringe p ≡ check.Refused f
   pub always : (bs : List RoundedBox) (fringe : Float) (p : Position) (f : Fault)
       → touchCheckOf bs fringe p ≡ check.Refused f → touchCall bs fringe p ≡ Refused f
+
+-- document 02, change 7: 'Number 12 is now for more than 4,096, at the same place in the order', which is the first:
+-- whatever boxes, fringe and point hold
+pub record TwelveExactlyWhen : Type 0 where
+  pub only : (bs : List RoundedBox) (fringe : Float) (p : Position) → touchCall bs fringe p ≡ Refused TooManyBoxes → 4096 < length bs
+  pub always : (bs : List RoundedBox) (fringe : Float) (p : Position) → 4096 < length bs → touchCall bs fringe p ≡ Refused TooManyBoxes
+
+-- ---- before document 02, change 7: number 12 was 'over 256 boxes in a touch list', and the place a byte. That call is
+-- touchWithin 256
+
+pub record ShortListsAsBefore (bs : List RoundedBox) (fringe : Float) (p : Position) : Type 0 where
+  -- 'Lists of 256 or fewer name the same places as before', and get 'no frame' and each refusal as before
+  pub same : length bs ≤ 256 → touchCall bs fringe p ≡ touchWithin 256 bs fringe p
+  -- each such place is a byte still
+  pub byte : length bs ≤ 256 → (k : ℕ) → touchCall bs fringe p ≡ Frame k → k < 256
+  -- every longer list was refused
+  pub longer : 256 < length bs → touchWithin 256 bs fringe p ≡ Refused TooManyBoxes
 
 -- ---- the rule before document 02, change 3: 'the place of some box', any that is touched
 

@@ -18,7 +18,7 @@ use shape::RoundedBox;
 
 pub enum TouchAnswer {
     // the lowest place whose box the point touches, counted from 0
-    Frame(u8),
+    Frame(u16),
     NoFrame,
     Refused(Fault),
 }
@@ -41,13 +41,13 @@ fn finish_check(found: Found, fringe: f32, x: f32, y: f32) -> Check
         .and_then(shape::point_check(p))
 }
 
-// What the walk found as an answer: the place as a byte.
+// What the walk found as an answer: the place as 16 bits.
 fn answer(found: Found) -> TouchAnswer
     requires { ⌜ PlaceFits found ⌝ }
     ensures { λ r. ⌜ r ≡ answerOf found ⌝ }
 {
     match found {
-        Found::At(k) => TouchAnswer::Frame(k as u8),
+        Found::At(k) => TouchAnswer::Frame(k as u16),
         Found::Nowhere => TouchAnswer::NoFrame,
         Found::Refused(fault) => TouchAnswer::Refused(fault),
     }

@@ -56,7 +56,7 @@ pub fn yes_or_no(holds: bool) {
     }
 }
 
-pub fn place(k: u8) {
+pub fn place(k: u16) {
     write(b"frame ");
     io::print_decimal(STDOUT_FILENO, k as u64);
     write(b"\n");
@@ -83,6 +83,7 @@ fn limit_message(problem: Problem) {
         Problem::TooManyFloats => write(b"a line takes at most 2,573 floats"),
         Problem::TooManyVerbs => write(b"an outline's line takes at most 512 verbs"),
         Problem::TooManyBoxes => write(b"a touch list's line takes at most 257 boxes"),
+        Problem::TooManyCopies => write(b"a touch list of copies has at most 4,097 boxes"),
         Problem::ScratchTooLong => write(b"scratch has at most 40,000 floats and 5,000 counters"),
         _ => {}
     }
@@ -105,6 +106,7 @@ fn message(problem: Problem) {
         | Problem::TooManyFloats
         | Problem::TooManyVerbs
         | Problem::TooManyBoxes
+        | Problem::TooManyCopies
         | Problem::ScratchTooLong => limit_message(problem),
     }
 }

@@ -3,13 +3,14 @@ use mathlib.Core.Path.{subst}
 use Prim.Native.Nat.{_<_}
 use native.Mathlib.Omega.{arith}
 use borrow.Author.Needs.{needs}
+use Rattle.boxes.specs.Checks.{mostBoxes}
 use Rattle.touch.specs.Finish.{PlaceFits}
 use Rattle.touch.proofs.answer.Statement.{statement}
 use Rattle.touch.proofs.answer.Tie as tie
 
 cast-t5 : tie.Need-cast-t5
 cast-t5 c =
-    let l : c .before .found .given .0 .0 < 256 = subst PlaceFits (c .before .found .given .1) (c .before .before .before .pre) in
+    let l : c .before .found .given .0 .0 < mostBoxes = subst PlaceFits (c .before .found .given .1) (c .before .before .before .pre) in
     omega arith
 
 returns : tie.Need-returns
