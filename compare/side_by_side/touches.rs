@@ -223,3 +223,16 @@ impl Counts {
         );
     }
 }
+
+#[cfg(test)]
+mod tests {
+    use super::*;
+
+    #[test]
+    fn many_long_lists_name_a_place_past_a_byte() {
+        let random = &mut Random::new(1);
+        let mut counts = Counts::default();
+        (0..4000).for_each(|_| counts.count(&list(random)));
+        assert!(counts.long > 200 && 6 * counts.past_byte > counts.long);
+    }
+}

@@ -497,7 +497,7 @@ fn touches() {
         one[4] = 120.0 * at as f32;
         one
     };
-    for frames in [4, 256, 4096] {
+    for frames in [4, 256, 1024, 4096] {
         let boxes: Vec<Box10> = (0..frames).map(frame).collect();
         let shapes: Vec<Shape> = boxes.iter().copied().map(Shape::new).collect();
         let point = [boxes[frames - 1][4], 80.0];

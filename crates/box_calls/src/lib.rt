@@ -60,12 +60,12 @@ pub fn touch(line: &[u8; MOST_LINE], at: usize) -> Problem {
 
 // ---- a touch list of copies
 
-// The most boxes of a sheet, one more than a list that is taken, and their floats.
+// The most boxes of a sheet: one more than a list that is taken.
 const MOST_SHEET: usize = 4097;
-
+// Ten for each of them.
 const SHEET_FLOATS: usize = 40970;
 
-// Puts a box, ten floats, again and again from a box's first float up to another's.
+// Puts a box at every place between two, which are given by their first floats.
 fn put_box(sheet: &mut [f32; SHEET_FLOATS], from: usize, to: usize, b: &[f32; MOST_FLOATS])
     requires { ⌜ to ≤ 40970 ⌝ }
 {
@@ -76,14 +76,14 @@ fn put_box(sheet: &mut [f32; SHEET_FLOATS], from: usize, to: usize, b: &[f32; MO
     }
 }
 
-// The touch of a sheet's first n boxes, with the fringe and the point behind the box in f.
+// The touch of a sheet's first n boxes. In f the fringe and the point stand behind a box.
 fn touched_on(sheet: &[f32; SHEET_FLOATS], n: usize, f: &[f32; MOST_FLOATS]) -> TouchAnswer
     requires { ⌜ n ≤ 4097 ⌝ }
 {
     touch::touch_floats(sheet, n, f[10], f[11], f[12])
 }
 
-// The touch of n copies of a box, with another at its place, if there is such a place.
+// The touch of n copies of a box, with another box at its place, if there are so many.
 fn touched_copies(
     n: usize,
     copied: &[f32; MOST_FLOATS],

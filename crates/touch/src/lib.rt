@@ -66,7 +66,7 @@ fn finish(found: Found, fringe: f32, x: f32, y: f32) -> TouchAnswer
 
 // The lowest place whose box the point touches: a box whose coverage exists and whose distance at the
 // point is at most 0.5, in fringe widths. Ruled out: a later box of those touched; a place named where a
-// box after it is at fault; 'no frame' untried; a walk over the first box alone; a place beside the box's.
+// box after it is at fault; 'no frame' untried; a walk that ends at 256 boxes; a place modulo 256.
 pub fn touch(boxes: &[RoundedBox], fringe: f32, x: f32, y: f32) -> TouchAnswer
     ensures { λ r. ⌜ r ≡ touchCall (now (boxes .entry)) fringe (pointOf x y) ⌝ }
 {
