@@ -92,6 +92,9 @@ struct beamnettle_box {
     float radius_x, radius_y;
 };
 
+/* The most boxes of a list: one more is BEAMNETTLE_TOO_MANY_BOXES. */
+enum { BEAMNETTLE_MOST_BOXES = 4096 };
+
 #ifdef __cplusplus
 static_assert(sizeof(float) == 4 && sizeof(size_t) == 8, "a float of 32 bits, a length of 64");
 static_assert(sizeof(struct beamnettle_box) == 10 * sizeof(float), "a box is ten floats");

@@ -748,8 +748,8 @@ static void touching(void) {
         for (size_t two = one + 1; two < BOX; two++) CHECK(shows(one, two));
 
     /* places, and numbers in their order */
-    static struct beamnettle_box boxes[4097];
-    for (size_t i = 0; i < 4097; i++)
+    static struct beamnettle_box boxes[BEAMNETTLE_MOST_BOXES + 1];
+    for (size_t i = 0; i <= BEAMNETTLE_MOST_BOXES; i++)
         boxes[i] = (struct beamnettle_box){.a = 1, .d = 1, .x = 10.0f * (float)i, .y = 3, .extent_x = 2, .extent_y = 1};
     CHECK(beamnettle_touch(boxes, 256, 1, 0, 3) == BEAMNETTLE_FIRST_PLACE);
     CHECK(beamnettle_touch(boxes, 256, 1, 2551, 3.5f) == BEAMNETTLE_FIRST_PLACE + 255);
@@ -757,7 +757,7 @@ static void touching(void) {
     CHECK(beamnettle_touch(boxes, 257, 1, 2560, 3) == BEAMNETTLE_FIRST_PLACE + 256);
     CHECK(beamnettle_touch(boxes, 4096, 1, 40951, 3.5f) == BEAMNETTLE_FIRST_PLACE + 4095);
     CHECK(beamnettle_touch(boxes, 4095, 1, 40951, 3.5f) == BEAMNETTLE_NO_FRAME);
-    CHECK(beamnettle_touch(boxes, 4097, 1, 0, 3) == BEAMNETTLE_TOO_MANY_BOXES);
+    CHECK(beamnettle_touch(boxes, BEAMNETTLE_MOST_BOXES + 1, 1, 0, 3) == BEAMNETTLE_TOO_MANY_BOXES);
     /* half a fringe width past a side, and the next float; and the same past the sides that meet in a corner */
     CHECK(beamnettle_touch(boxes, 256, 1, 22.5f, 3) == BEAMNETTLE_FIRST_PLACE + 2);
     CHECK(beamnettle_touch(boxes, 256, 1, nextafterf(22.5f, 23), 3) == BEAMNETTLE_NO_FRAME);
@@ -771,8 +771,8 @@ static void touching(void) {
     CHECK(beamnettle_touch(boxes, 256, 1, 20, 3) == BEAMNETTLE_FIRST_PLACE + 2);
     /* a box at fault refuses the list, and more boxes than are taken before it */
     boxes[4095].radius_x = -1;
-    CHECK(beamnettle_touch(boxes, 4096, 1, 0, 3) == BEAMNETTLE_IMPROPER_BOX);
-    CHECK(beamnettle_touch(boxes, 4097, 1, 0, 3) == BEAMNETTLE_TOO_MANY_BOXES);
+    CHECK(beamnettle_touch(boxes, BEAMNETTLE_MOST_BOXES, 1, 0, 3) == BEAMNETTLE_IMPROPER_BOX);
+    CHECK(beamnettle_touch(boxes, BEAMNETTLE_MOST_BOXES + 1, 1, 0, 3) == BEAMNETTLE_TOO_MANY_BOXES);
     CHECK(beamnettle_touch(boxes, 4095, 1, 0, 3) == BEAMNETTLE_FIRST_PLACE);
     boxes[255].radius_x = -1;
     CHECK(beamnettle_touch(boxes, 256, 1, 1500, 3) == BEAMNETTLE_IMPROPER_BOX);
