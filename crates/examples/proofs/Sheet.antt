@@ -12,7 +12,6 @@ use Rattle.float.specs.Ops.{f0, f1, f-1}
 use Rattle.fault.specs.declared.Fault.{Fault}
 use Rattle.fault.specs.declared.Fault.the-variants.{TooManyBoxes}
 use Rattle.fault.specs.declared.Check.the-variants as check
-use Rattle.fault.specs.Check.{_andThen_}
 use Rattle.shape.specs.declared.RoundedBox.{RoundedBox}
 use Rattle.shape.specs.Checks.{boxCheckOf}
 use Rattle.covering.specs.Touches.{touchesOf}

@@ -106,7 +106,7 @@ behind n b last = replicate n b ++ last ∷ []
 pub record SheetOfFrames : Type 0 where
   -- 4,096 boxes, the last alone touched
   pub last : Names (behind 4095 sliver square) f1 (Frame 4095)
-  -- one box more, and the same where a box before is no number
+  -- one box more; and the same where the first box's place is a NaN
   pub one-more : Names (behind 4096 sliver square) f1 (Refused TooManyBoxes)
   pub one-more-first : Names (uprightAt nan f4 f4 f0 ∷ behind 4095 square square) f1 (Refused TooManyBoxes)
   -- place 256 of 257 boxes: a byte would say 0
