@@ -44,7 +44,15 @@ fn number(f: &mut Fields) -> Result<usize, Bad> {
 }
 
 fn word(field: &str) -> Result<i32, Bad> {
-    field.parse().map_err(|_| NOT_A_NUMBER)
+    let word = Some(field).filter(|field| !field.starts_with('+'));
+    let word = word.and_then(|field| field.parse().ok());
+    word.ok_or(NOT_A_NUMBER)
+}
+
+/// Two words: an offset or a corner.
+fn pair(f: &mut Fields) -> Result<[i32; 2], Bad> {
+    let mut next = || word(f.next().unwrap_or_default());
+    Ok([next()?, next()?])
 }
 
 fn float(f: &mut Fields) -> Result<f32, Bad> {
@@ -303,9 +311,13 @@ impl State {
         Ok(shown(buffer))
     }
 
-    fn draw(&mut self, f: &mut Fields) -> Result<String, Bad> {
+    /// A drawing, with a corner or without one: no corner changes an answer or a byte.
+    fn draw(&mut self, f: &mut Fields, placed: bool) -> Result<String, Bad> {
         let buffer = &mut self.buffers[named_buffer(f)?];
         let size = [number(f)?, number(f)?];
+        if placed {
+            pair(f)?;
+        }
         let lent = [buffer.len(), number(f)?, number(f)?];
         let words = f.map(word).collect::<Result<Vec<i32>, _>>()?;
         let answer = Drawing::check(size, &words, lent);
@@ -319,11 +331,19 @@ impl State {
     fn lay(&mut self, f: &mut Fields) -> Result<String, Bad> {
         let size = [number(f)?, number(f)?];
         let other_size = [number(f)?, number(f)?];
-        let mut by = || word(f.next().unwrap_or_default());
-        let offset = [by()?, by()?];
+        let offset = pair(f)?;
         ended(f)?;
         let [run, next] = &mut self.buffers;
         Ok(done(calls::lay(run, size, next, other_size, offset)))
+    }
+
+    fn lay_at(&mut self, f: &mut Fields) -> Result<String, Bad> {
+        let (size, corner) = ([number(f)?, number(f)?], pair(f)?);
+        let (met, place) = ([number(f)?, number(f)?], pair(f)?);
+        ended(f)?;
+        let [run, next] = &mut self.buffers;
+        let answer = calls::lay_placed(run, size, corner, next, met, place);
+        Ok(done(answer))
     }
 
     /// The file's length, and all that is lent for it: what lies past the file shows too.
@@ -341,10 +361,12 @@ impl State {
 
     fn read_pgm(&mut self, f: &mut Fields) -> Result<String, Bad> {
         let mask = &mut self.buffers[named_buffer(f)?];
-        let (file, mut size) = (bytes(f)?, [0; 2]);
-        let answer = netpbm::read(&file, mask, &mut size);
-        let [width, height] = size;
-        Ok(answered(answer, |()| format!("size {width} {height}")))
+        let (file, mut size, mut corner) = (bytes(f)?, [0; 2], [9; 2]);
+        let answer = netpbm::read(&file, mask, &mut size, &mut corner);
+        let ([width, height], [x, y]) = (size, corner);
+        Ok(answered(answer, |()| {
+            format!("size {width} {height} corner {x} {y}")
+        }))
     }
 
     pub fn answer(&mut self, line: &str) -> Result<String, Bad> {
@@ -354,8 +376,10 @@ impl State {
             "buf" => self.set(f),
             "bufn" => self.fill(f),
             "show" => self.show(f),
-            "draw" => self.draw(f),
+            "draw" => self.draw(f, false),
+            "draw_at" => self.draw(f, true),
             "lay" => self.lay(f),
+            "lay_at" => self.lay_at(f),
             "write_pgm" => self.write_pgm(f),
             "read_pgm" => self.read_pgm(f),
             "fit" => fit(f),

@@ -122,7 +122,7 @@ struct Mask {
 }
 
 /// A four-sided contour over most of a mask, now and then with other groups or with a fault.
-fn chain_words(r: &mut Random, [width, height]: [usize; 2]) -> Vec<i32> {
+pub fn chain_words(r: &mut Random, [width, height]: [usize; 2]) -> Vec<i32> {
     let (right, bottom) = (256 * width as i32, 256 * height as i32);
     let mut words = vec![r.between(0, 1), 1, 4];
     for (x, y) in [(0, 0), (right, 0), (right, bottom), (0, bottom)] {
@@ -153,7 +153,7 @@ fn chain_draw(l: &mut List, r: &mut Random, mask: &mut Mask) {
     }
 }
 
-fn chain_offset(r: &mut Random) -> i32 {
+pub fn chain_offset(r: &mut Random) -> i32 {
     match r.below(16) {
         0..=7 => 0,
         8..=12 => r.between(-2, 2),

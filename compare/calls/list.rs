@@ -2,6 +2,7 @@
 //! inside it, known corners, and random calls from a fixed seed.
 use crate::{
     chains::{chains, layings, offsets, row_starts},
+    corners::placed,
     curves::curves,
     holds::holds,
     pgm::pgms,
@@ -114,9 +115,9 @@ impl Random {
 /// Floats as fields of a line, every NaN alike.
 pub fn hex(floats: &[f32]) -> String {
     let bits = |x: &f32| if x.is_nan() { f32::NAN } else { *x }.to_bits();
-    floats.iter().fold(String::new(), |text, x| {
-        format!("{text} {:08x}", bits(x))
-    })
+    floats
+        .iter()
+        .fold(String::new(), |text, x| format!("{text} {:08x}", bits(x)))
 }
 
 #[derive(Default)]
@@ -638,7 +639,7 @@ pub fn list() -> String {
     let mut list = List::default();
     for part in [
         examples, numbers, improper, masks, layings, offsets, outlines, corners, random, chains,
-        touches, scissors, holds, bad_lines, pgms, curves, row_starts, sheets,
+        touches, scissors, holds, bad_lines, pgms, curves, row_starts, sheets, placed,
     ] {
         part(&mut list);
     }

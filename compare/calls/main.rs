@@ -3,6 +3,7 @@
 //! says how many calls of each kind a list has.
 mod answer;
 mod chains;
+mod corners;
 mod curves;
 mod holds;
 mod list;

@@ -35,6 +35,7 @@ const VERB: Refused = 8;
 const POSITIONS: Refused = 9;
 const VERBS: Refused = 11;
 const BOXES: Refused = 12;
+const CORNER: Refused = 16;
 
 const LARGEST: f32 = 1_048_576.0;
 
@@ -194,6 +195,13 @@ impl Drawing {
     }
 }
 
+fn check_sides(sizes: [[usize; 2]; 2]) -> Result<(), Refused> {
+    if sizes.iter().flatten().any(|side| *side > 4096) {
+        return Err(MASK_TOO_LARGE);
+    }
+    Ok(())
+}
+
 /// Lays the other mask on a mask.
 pub fn lay(
     mask: &mut [u8],
@@ -202,9 +210,7 @@ pub fn lay(
     other_size: [usize; 2],
     offset: [i32; 2],
 ) -> Result<(), Refused> {
-    if size.iter().chain(&other_size).any(|side| *side > 4096) {
-        return Err(MASK_TOO_LARGE);
-    }
+    check_sides([size, other_size])?;
     let cells = size[0] * size[1];
     if mask.len() < cells || other.len() < other_size[0] * other_size[1] {
         return Err(TOO_SHORT);
@@ -213,6 +219,35 @@ pub fn lay(
         coverage::intersect(&mut mask[..cells], size, other, other_size, offset);
     }
     Ok(())
+}
+
+fn check_corner(corner: [i32; 2]) -> Result<(), Refused> {
+    let within = |number| (-1_048_576..=1_048_576).contains(number);
+    if corner.iter().all(within) {
+        Ok(())
+    } else {
+        Err(CORNER)
+    }
+}
+
+/// Document 02, change 8: lays the other mask on a mask by their corners on the sheet. femtovg has no
+/// corners and is given how far they lie apart.
+pub fn lay_placed(
+    mask: &mut [u8],
+    size: [usize; 2],
+    corner: [i32; 2],
+    other: &[u8],
+    other_size: [usize; 2],
+    other_corner: [i32; 2],
+) -> Result<(), Refused> {
+    check_sides([size, other_size])?;
+    check_corner(corner)?;
+    check_corner(other_corner)?;
+    let offset = [0, 1].map(|axis| {
+        let apart = corner[axis] as i64 - other_corner[axis] as i64;
+        i32::try_from(apart).expect("corners within their limits")
+    });
+    lay(mask, size, other, other_size, offset)
 }
 
 // ---- boxes

@@ -90,12 +90,19 @@ static struct {
     uint64_t counters[COUNTERS + 2];
 } lent, before;
 
+/* Where the mask's corner lies on the sheet, which changes nothing. */
+static const struct {
+    int32_t x, y;
+} CORNERS[] = {{0, 0}, {-3, 7}, {INT32_MAX, INT32_MIN}, {INT32_MIN, INT32_MAX}};
+static int32_t corner_x, corner_y;
+
 static uint8_t draw(size_t mask, size_t width, const int32_t *words, size_t length, size_t floats, size_t counters) {
     for (size_t i = 0; i < 9; i++) lent.mask[i] = (uint8_t)(90 + i);
     for (size_t i = 0; i < FLOATS + 2; i++) lent.floats[i] = rubbish(i);
     for (size_t i = 0; i < COUNTERS + 2; i++) lent.counters[i] = 50 + i;
     before = lent;
-    return beamnettle_draw(lent.mask, mask, width, 2, words, length, lent.floats, floats, lent.counters, counters);
+    return beamnettle_draw(lent.mask, mask, width, 2, corner_x, corner_y, words, length, lent.floats, floats,
+                           lent.counters, counters);
 }
 
 static int left_as_it_was(void) {
@@ -138,6 +145,14 @@ static void drawing(void) {
     CHECK(memcmp(lent.mask, (const uint8_t[6]){0}, 6) == 0 && memcmp(lent.mask + 6, before.mask + 6, 3) == 0);
 }
 
+static void drawing_at_corners(void) {
+    for (size_t i = 0; i < sizeof CORNERS / sizeof *CORNERS; i++) {
+        corner_x = CORNERS[i].x;
+        corner_y = CORNERS[i].y;
+        drawing();
+    }
+}
+
 static void laying(void) {
     /* cell (column, row) meets (column - 1, row + 1) of the other: (cell * other + 127) / 255, rounded down */
     uint8_t mask[] = {10, 20, 30, 40, 50, 60, 77};
@@ -160,6 +175,77 @@ static void laying(void) {
     CHECK(memcmp(open, (const uint8_t[]){0, 0, 0, 0, 0, 0, 77}, sizeof open) == 0);
 }
 
+/* ---- masks by corners */
+
+/* Six cells of 3 by 2 with a byte behind them, the other mask's six of 2 by 3, and the largest corner number. */
+static const uint8_t OWN[] = {100, 150, 200, 50, 60, 70, 77}, OTHER[] = {255, 128, 64, 255, 51, 254};
+enum { FAR = BEAMNETTLE_LARGEST_CORNER_NUMBER };
+static uint8_t placed[sizeof OWN];
+
+/* The number for so many bytes, widths and corners. */
+static uint8_t lay_placed(size_t length, size_t other_length, size_t width, size_t other_width, const int32_t *c) {
+    memcpy(placed, OWN, sizeof OWN);
+    return beamnettle_lay_placed(placed, length, width, 2, c[0], c[1], OTHER, other_length, other_width, 3, c[2], c[3]);
+}
+
+/* The same with all that is needed: own corner, then the other's. */
+#define LAY_AT(...) lay_placed(6, 6, 3, 2, (const int32_t[4]){__VA_ARGS__})
+
+static int placed_is(const uint8_t *cells) { return memcmp(placed, cells, sizeof placed) == 0; }
+
+static void laying_placed(void) {
+    /* cell (column, row) meets (column + own x - other x, row + own y - other y) */
+    const struct {
+        int32_t c[4];
+        uint8_t cells[sizeof OWN];
+    } done[] = {
+        {{0, 0, 0, 0}, {100, 75, 0, 13, 60, 0, 77}},
+        {{1, 0, 0, 0}, {50, 0, 0, 50, 0, 0, 77}},
+        {{0, 0, 1, 0}, {0, 150, 100, 0, 15, 70, 77}},
+        {{0, 1, 0, 0}, {25, 150, 0, 10, 60, 0, 77}},
+        {{0, 0, 0, 1}, {0, 0, 0, 50, 30, 0, 77}},
+        {{-8, 41, -7, 40}, {0, 38, 200, 0, 12, 70, 77}},
+        {{FAR - 1, 1 - FAR, FAR, -FAR}, {0, 38, 200, 0, 12, 70, 77}},
+        {{-FAR, FAR, 1 - FAR, FAR - 1}, {0, 38, 200, 0, 12, 70, 77}},
+        {{FAR, 0, -FAR, 0}, {0, 0, 0, 0, 0, 0, 77}},
+        {{0, -FAR, 0, FAR}, {0, 0, 0, 0, 0, 0, 77}},
+    };
+    for (size_t i = 0; i < sizeof done / sizeof *done; i++) {
+        CHECK(lay_placed(7, 6, 3, 2, done[i].c) == BEAMNETTLE_DONE);
+        CHECK(placed_is(done[i].cells));
+    }
+}
+
+static void refusing_placed(void) {
+    const int32_t beyond[] = {FAR + 1, -FAR - 1, INT32_MAX, INT32_MIN, INT32_MIN + 1}, at_limit[] = {FAR, -FAR};
+    for (size_t place = 0; place < 4; place++) {
+        for (size_t i = 0; i < sizeof beyond / sizeof *beyond; i++) {
+            int32_t c[4] = {0};
+            c[place] = beyond[i];
+            CHECK(lay_placed(6, 6, 4097, 2, c) == BEAMNETTLE_MASK_TOO_LARGE && placed_is(OWN));
+            CHECK(lay_placed(6, 6, 3, 4097, c) == BEAMNETTLE_MASK_TOO_LARGE && placed_is(OWN));
+            CHECK(lay_placed(6, 6, 3, 2, c) == BEAMNETTLE_CORNER_OUT_OF_RANGE && placed_is(OWN));
+            CHECK(lay_placed(5, 6, 3, 2, c) == BEAMNETTLE_CORNER_OUT_OF_RANGE && placed_is(OWN));
+            CHECK(lay_placed(6, 5, 3, 2, c) == BEAMNETTLE_CORNER_OUT_OF_RANGE && placed_is(OWN));
+        }
+        for (size_t i = 0; i < sizeof at_limit / sizeof *at_limit; i++) {
+            int32_t c[4] = {0};
+            c[place] = at_limit[i];
+            CHECK(lay_placed(6, 6, 3, 4097, c) == BEAMNETTLE_MASK_TOO_LARGE && placed_is(OWN));
+            CHECK(lay_placed(5, 6, 3, 2, c) == BEAMNETTLE_BUFFER_TOO_SHORT && placed_is(OWN));
+            CHECK(lay_placed(6, 5, 3, 2, c) == BEAMNETTLE_BUFFER_TOO_SHORT && placed_is(OWN));
+            CHECK(lay_placed(6, 6, 3, 2, c) == BEAMNETTLE_DONE);
+            CHECK(placed_is((const uint8_t[]){0, 0, 0, 0, 0, 0, 77}));
+        }
+    }
+    CHECK(beamnettle_lay_placed(placed, 6, 3, 4097, 0, 0, OTHER, 6, 2, 3, FAR + 1, 0) == BEAMNETTLE_MASK_TOO_LARGE);
+    CHECK(beamnettle_lay_placed(placed, 6, 3, 2, 0, -FAR - 1, OTHER, 6, 2, 4097, 0, 0) == BEAMNETTLE_MASK_TOO_LARGE);
+    CHECK(LAY_AT(INT32_MAX, 0, -1, 0) == BEAMNETTLE_CORNER_OUT_OF_RANGE && placed_is(OWN));
+    CHECK(LAY_AT(INT32_MIN, 0, 1, 0) == BEAMNETTLE_CORNER_OUT_OF_RANGE && placed_is(OWN));
+    CHECK(LAY_AT(0, INT32_MIN, 0, INT32_MIN) == BEAMNETTLE_CORNER_OUT_OF_RANGE && placed_is(OWN));
+    CHECK(LAY_AT(FAR + 1, 0, FAR + 1, 0) == BEAMNETTLE_CORNER_OUT_OF_RANGE && placed_is(OWN));
+}
+
 /* ---- PGM files */
 
 /* A mask of 3 by 2, with one byte behind it, and its file. Before what is lent to be written lie three bytes or
@@ -172,12 +258,14 @@ enum { WRITTEN = BEAMNETTLE_FIRST_LENGTH + PICTURE_LENGTH };
 static struct {
     uint8_t file[PICTURE_LENGTH + 3 * PAST], mask[CELL_COUNT + 3 * PAST];
     size_t size[2 + 3 * PAST];
+    int32_t corner[2 + 3 * PAST];
 } pgm, pgm_before;
 
 static void lend_pgm(void) {
     for (size_t i = 0; i < sizeof pgm.file; i++) pgm.file[i] = (uint8_t)(150 + i);
     for (size_t i = 0; i < sizeof pgm.mask; i++) pgm.mask[i] = (uint8_t)(100 + i);
     for (size_t i = 0; i < sizeof pgm.size / sizeof *pgm.size; i++) pgm.size[i] = 1000 + i;
+    for (size_t i = 0; i < sizeof pgm.corner / sizeof *pgm.corner; i++) pgm.corner[i] = -2000 - (int32_t)i;
     pgm_before = pgm;
 }
 
@@ -199,16 +287,23 @@ static int size_holds(size_t width, size_t height) {
     return memcmp(pgm.size, pgm_before.size, sizeof pgm.size) == 0;
 }
 
+/* And of the corner's. */
+static int corner_holds(int32_t left, int32_t top) {
+    pgm_before.corner[PAST] = left;
+    pgm_before.corner[PAST + 1] = top;
+    return memcmp(pgm.corner, pgm_before.corner, sizeof pgm.corner) == 0;
+}
+
 /* The number for so many bytes of the mask, a size and so many bytes lent for the file. */
 static uint32_t write_pgm(size_t mask, size_t width, size_t height, size_t file) {
     lend_pgm();
     return beamnettle_write_pgm(CELLS, mask, width, height, pgm.file + PAST, file);
 }
 
-/* The number for a file, with so many bytes lent for the mask and numbers for the size. */
-static uint8_t read_pgm(const void *file, size_t length, size_t mask, size_t size) {
+/* The number for a file, with so many bytes lent for the mask and numbers for the size and the corner. */
+static uint8_t read_pgm(const void *file, size_t length, size_t mask, size_t size, size_t corner) {
     lend_pgm();
-    return beamnettle_read_pgm(file, length, pgm.mask + PAST, mask, pgm.size + PAST, size);
+    return beamnettle_read_pgm(file, length, pgm.mask + PAST, mask, pgm.size + PAST, size, pgm.corner + PAST, corner);
 }
 
 static void writing_pgm(void) {
@@ -253,43 +348,48 @@ static void reading_pgm(void) {
     for (size_t past = 0; past < PAST; past++) {
         CHECK(write_pgm(CELL_COUNT, 3, 2, PICTURE_LENGTH) == WRITTEN);
         CHECK(beamnettle_read_pgm(pgm.file + PAST, PICTURE_LENGTH, pgm.mask + PAST, CELL_COUNT + past, pgm.size + PAST,
-                                  2 + past) == BEAMNETTLE_DONE);
-        CHECK(mask_holds(CELLS, CELL_COUNT) && size_holds(3, 2) && file_holds(PICTURE, PICTURE_LENGTH));
-        CHECK(read_pgm(PGM(spelled), CELL_COUNT + past, 2 + past) == BEAMNETTLE_DONE);
-        CHECK(mask_holds(CELLS, CELL_COUNT) && size_holds(3, 2));
+                                  2 + past, pgm.corner + PAST, 2 + (past + 1) % PAST) == BEAMNETTLE_DONE);
+        CHECK(mask_holds(CELLS, CELL_COUNT) && size_holds(3, 2) && corner_holds(0, 0));
+        CHECK(file_holds(PICTURE, PICTURE_LENGTH));
+        CHECK(read_pgm(PGM(spelled), CELL_COUNT + past, 2 + past, 2 + past) == BEAMNETTLE_DONE);
+        CHECK(mask_holds(CELLS, CELL_COUNT) && size_holds(3, 2) && corner_holds(0, 0));
     }
-    CHECK(read_pgm(PGM("P5\n1 1\n255\n\n"), 1, 2) == BEAMNETTLE_DONE);
-    CHECK(mask_holds((const uint8_t *)"\n", 1) && size_holds(1, 1));
+    CHECK(read_pgm(PGM("P5\n1 1\n255\n\n"), 1, 2, 2) == BEAMNETTLE_DONE);
+    CHECK(mask_holds((const uint8_t *)"\n", 1) && size_holds(1, 1) && corner_holds(0, 0));
 }
 
 static void refusing_pgm(void) {
     const struct {
         const char *file;
-        size_t length, mask, size;
+        size_t length, mask, size, corner;
         uint8_t number;
     } refused[] = {
-        {PGM(""), 6, 2, BEAMNETTLE_NOT_PGM},
-        {PGM("P2\n1 1\n255\n7"), 6, 2, BEAMNETTLE_NOT_PGM},
-        {PGM("P51 1\n255\n\a"), 6, 2, BEAMNETTLE_NOT_PGM},
-        {PGM("P5\n#\n1 1\n255\n\a"), 6, 2, BEAMNETTLE_NOT_PGM},
-        {PGM("P5\n+1 1\n255\n\a"), 6, 2, BEAMNETTLE_NOT_PGM},
-        {PGM("P5\n1\f1\n255\n\a"), 6, 2, BEAMNETTLE_NOT_PGM},
-        {PGM("P5\n0000000001 1\n255\n\a"), 6, 2, BEAMNETTLE_NOT_PGM},
-        {PGM("P5\n1 0\n254\n"), 0, 0, BEAMNETTLE_NOT_PGM},
-        {PGM("P5\n1 1\n254"), 0, 0, BEAMNETTLE_NOT_PGM},
-        {PGM("P5\n4097 1\n254\n"), 0, 0, BEAMNETTLE_WRONG_DEPTH},
-        {PGM("P5\n1 1\n0\n\a"), 6, 2, BEAMNETTLE_WRONG_DEPTH},
-        {PGM("P5\n4097 1\n255\n\a"), 0, 0, BEAMNETTLE_MASK_TOO_LARGE},
-        {PGM("P5\n1 999999999\n255\n\a"), 6, 2, BEAMNETTLE_MASK_TOO_LARGE},
-        {PGM("P5\n2 1\n255\n\a"), 0, 0, BEAMNETTLE_WRONG_RASTER},
-        {PGM("P5\n1 1\n255\r\n\a"), 6, 2, BEAMNETTLE_WRONG_RASTER},
-        {PGM("P5\n2 3\n255\n\a\a\a\a\a\a"), 5, 2, BEAMNETTLE_BUFFER_TOO_SHORT},
-        {PGM("P5\n2 3\n255\n\a\a\a\a\a\a"), 6, 1, BEAMNETTLE_BUFFER_TOO_SHORT},
-        {PGM("P5\n2 3\n255\n\a\a\a\a\a\a"), 6, 0, BEAMNETTLE_BUFFER_TOO_SHORT},
+        {PGM(""), 6, 2, 2, BEAMNETTLE_NOT_PGM},
+        {PGM("P2\n1 1\n255\n7"), 6, 2, 2, BEAMNETTLE_NOT_PGM},
+        {PGM("P51 1\n255\n\a"), 6, 2, 2, BEAMNETTLE_NOT_PGM},
+        {PGM("P5\n#\n1 1\n255\n\a"), 6, 2, 2, BEAMNETTLE_NOT_PGM},
+        {PGM("P5\n+1 1\n255\n\a"), 6, 2, 2, BEAMNETTLE_NOT_PGM},
+        {PGM("P5\n1\f1\n255\n\a"), 6, 2, 2, BEAMNETTLE_NOT_PGM},
+        {PGM("P5\n0000000001 1\n255\n\a"), 6, 2, 2, BEAMNETTLE_NOT_PGM},
+        {PGM("P5\n1 0\n254\n"), 0, 0, 0, BEAMNETTLE_NOT_PGM},
+        {PGM("P5\n1 1\n254"), 0, 0, 0, BEAMNETTLE_NOT_PGM},
+        {PGM("P5\n4097 1\n254\n"), 0, 0, 0, BEAMNETTLE_WRONG_DEPTH},
+        {PGM("P5\n1 1\n0\n\a"), 6, 2, 2, BEAMNETTLE_WRONG_DEPTH},
+        {PGM("P5\n4097 1\n255\n\a"), 0, 0, 0, BEAMNETTLE_MASK_TOO_LARGE},
+        {PGM("P5\n1 999999999\n255\n\a"), 6, 2, 2, BEAMNETTLE_MASK_TOO_LARGE},
+        {PGM("P5\n2 1\n255\n\a"), 0, 0, 0, BEAMNETTLE_WRONG_RASTER},
+        {PGM("P5\n1 1\n255\r\n\a"), 6, 2, 2, BEAMNETTLE_WRONG_RASTER},
+        {PGM("P5\n2 3\n255\n\a\a\a\a\a\a"), 5, 2, 2, BEAMNETTLE_BUFFER_TOO_SHORT},
+        {PGM("P5\n2 3\n255\n\a\a\a\a\a\a"), 6, 1, 2, BEAMNETTLE_BUFFER_TOO_SHORT},
+        {PGM("P5\n2 3\n255\n\a\a\a\a\a\a"), 6, 0, 2, BEAMNETTLE_BUFFER_TOO_SHORT},
+        {PGM("P5\n2 3\n255\n\a\a\a\a\a\a"), 6, 2, 1, BEAMNETTLE_BUFFER_TOO_SHORT},
+        {PGM("P5\n2 3\n255\n\a\a\a\a\a\a"), 6, 2, 0, BEAMNETTLE_BUFFER_TOO_SHORT},
     };
     for (size_t i = 0; i < sizeof refused / sizeof *refused; i++) {
-        CHECK(read_pgm(refused[i].file, refused[i].length, refused[i].mask, refused[i].size) == refused[i].number);
+        CHECK(read_pgm(refused[i].file, refused[i].length, refused[i].mask, refused[i].size, refused[i].corner) ==
+              refused[i].number);
         CHECK(mask_holds(CELLS, 0) && size_holds(1000 + PAST, 1001 + PAST));
+        CHECK(corner_holds(-2000 - PAST, -2001 - PAST));
     }
 }
 
@@ -789,14 +889,18 @@ static void touching(void) {
 /* ---- a length of 0 with no address, as of an empty vector */
 static void nothing(void) {
     uint64_t counter = 5;
-    CHECK(beamnettle_draw(NULL, 0, 0, 0, NULL, 0, NULL, 0, &counter, 1) == BEAMNETTLE_DONE && counter == 0);
-    CHECK(beamnettle_draw(NULL, 0, 0, 0, NULL, 0, NULL, 0, NULL, 0) == BEAMNETTLE_BUFFER_TOO_SHORT);
+    CHECK(beamnettle_draw(NULL, 0, 0, 0, 1, 2, NULL, 0, NULL, 0, &counter, 1) == BEAMNETTLE_DONE && counter == 0);
+    CHECK(beamnettle_draw(NULL, 0, 0, 0, 1, 2, NULL, 0, NULL, 0, NULL, 0) == BEAMNETTLE_BUFFER_TOO_SHORT);
     CHECK(beamnettle_lay(NULL, 0, 0, 7, NULL, 0, 5, 0, 3, 2) == BEAMNETTLE_DONE);
+    CHECK(beamnettle_lay_placed(NULL, 0, 0, 7, 1, 2, NULL, 0, 5, 0, 3, 4) == BEAMNETTLE_DONE);
+    CHECK(beamnettle_lay_placed(NULL, 0, 0, 7, 1, 2, NULL, 0, 5, 0, 3, FAR + 1) == BEAMNETTLE_CORNER_OUT_OF_RANGE);
+    CHECK(beamnettle_lay_placed(NULL, 0, 1, 1, 1, 2, NULL, 0, 0, 0, 3, 4) == BEAMNETTLE_BUFFER_TOO_SHORT);
+    CHECK(beamnettle_lay_placed(NULL, 0, 0, 0, 1, 2, NULL, 0, 1, 1, 3, 4) == BEAMNETTLE_BUFFER_TOO_SHORT);
     CHECK(beamnettle_write_pgm(NULL, 0, 0, 0, NULL, 0) == BEAMNETTLE_NOT_PGM);
     CHECK(beamnettle_write_pgm(NULL, 0, 1, 1, NULL, 0) == BEAMNETTLE_BUFFER_TOO_SHORT);
     CHECK(beamnettle_write_pgm(CELLS, 1, 1, 1, NULL, 0) == BEAMNETTLE_BUFFER_TOO_SHORT);
-    CHECK(beamnettle_read_pgm(NULL, 0, NULL, 0, NULL, 0) == BEAMNETTLE_NOT_PGM);
-    CHECK(beamnettle_read_pgm(PICTURE, PICTURE_LENGTH, NULL, 0, NULL, 0) == BEAMNETTLE_BUFFER_TOO_SHORT);
+    CHECK(beamnettle_read_pgm(NULL, 0, NULL, 0, NULL, 0, NULL, 0) == BEAMNETTLE_NOT_PGM);
+    CHECK(beamnettle_read_pgm(PICTURE, PICTURE_LENGTH, NULL, 0, NULL, 0, NULL, 0) == BEAMNETTLE_BUFFER_TOO_SHORT);
     RETURNS(BEAMNETTLE_NONE, beamnettle_fit(NULL, 0, NULL, 0, out, BOX));
     CHECK(beamnettle_fit(NULL, 0, NULL, 0, NULL, 0) == BEAMNETTLE_BUFFER_TOO_SHORT);
     RETURNS(BEAMNETTLE_NONE, beamnettle_fit_outline(NULL, 0, NULL, 0, out, OUTLINE));
@@ -823,8 +927,10 @@ static void nothing(void) {
 }
 
 int main(void) {
-    drawing();
+    drawing_at_corners();
     laying();
+    laying_placed();
+    refusing_placed();
     writing_pgm();
     reading_pgm();
     refusing_pgm();

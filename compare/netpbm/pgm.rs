@@ -1,4 +1,4 @@
-//! PGM files by the sentences of document 02's change 4. femtovg has none: this reader and this writer
+//! PGM files by the sentences of document 02's changes 4 and 8. femtovg has none: this reader and this writer
 //! are written for the comparison, and have nothing of Beamnettle's.
 use femtovg::calls::Refused;
 
@@ -76,8 +76,14 @@ fn fields(file: &[u8]) -> Option<([usize; 3], &[u8])> {
     (width > 0 && height > 0).then_some((numbers, rest))
 }
 
-/// Reads a file into a mask, and its width and height into two numbers.
-pub fn read(file: &[u8], mask: &mut [u8], size: &mut [usize]) -> Result<(), Refused> {
+/// Reads a file into a mask, its width and height into two numbers, and its corner into two: a mask that is
+/// read stands at (0, 0).
+pub fn read(
+    file: &[u8],
+    mask: &mut [u8],
+    size: &mut [usize],
+    corner: &mut [i32],
+) -> Result<(), Refused> {
     let ([width, height, depth], raster) = fields(file).ok_or(NOT_PGM)?;
     if depth != 255 {
         return Err(WRONG_DEPTH);
@@ -87,8 +93,10 @@ pub fn read(file: &[u8], mask: &mut [u8], size: &mut [usize]) -> Result<(), Refu
     }
     let mask = mask.get_mut(..raster.len()).ok_or(TOO_SHORT)?;
     let size = size.get_mut(..2).ok_or(TOO_SHORT)?;
+    let corner = corner.get_mut(..2).ok_or(TOO_SHORT)?;
     mask.copy_from_slice(raster);
     size.copy_from_slice(&[width, height]);
+    corner.copy_from_slice(&[0, 0]);
     Ok(())
 }
 
@@ -98,11 +106,15 @@ mod tests {
 
     /// What a file of one cell at most is read to, with one byte lent and one past it.
     fn one(file: &[u8]) -> Result<u8, Refused> {
-        let (mut mask, mut size) = ([99; 2], [77; 3]);
-        let answer = read(file, &mut mask[..1], &mut size);
-        assert!(mask[1] == 99 && size[2] == 77);
-        let read = if answer.is_ok() { [1, 1] } else { [77, 77] };
-        assert!(size[..2] == read && (answer.is_ok() || mask[0] == 99));
+        let (mut mask, mut size, mut corner) = ([99; 2], [77; 3], [-55; 3]);
+        let answer = read(file, &mut mask[..1], &mut size, &mut corner);
+        assert!(mask[1] == 99 && size[2] == 77 && corner[2] == -55);
+        let (sides, place) = match answer {
+            Ok(()) => ([1, 1], [0, 0]),
+            Err(_) => ([77, 77], [-55, -55]),
+        };
+        assert!(size[..2] == sides && corner[..2] == place);
+        assert!(answer.is_ok() || mask[0] == 99);
         answer.map(|()| mask[0])
     }
 
@@ -159,9 +171,10 @@ mod tests {
         assert!(one(b"P5\n2 1\n255\n\x07") == Err(15));
         assert!(one(b"P5\n2 1\n255\n\x07\x08") == Err(4));
         let file = b"P5\n1 1\n255\n\x07";
-        assert!(read(file, &mut [], &mut [0; 2]) == Err(4));
-        assert!(read(file, &mut [0], &mut [0]) == Err(4));
-        assert!(read(&file[..11], &mut [], &mut []) == Err(15));
+        assert!(read(file, &mut [], &mut [0; 2], &mut [0; 2]) == Err(4));
+        assert!(read(file, &mut [0], &mut [0], &mut [0; 2]) == Err(4));
+        assert!(read(file, &mut [0], &mut [0; 2], &mut [0]) == Err(4));
+        assert!(read(&file[..11], &mut [], &mut [], &mut []) == Err(15));
     }
 
     #[test]
@@ -186,10 +199,12 @@ mod tests {
     #[test]
     fn the_largest() {
         let mask: Vec<u8> = (0..4096 * 4096).map(|i| (i * 7 % 251) as u8).collect();
-        let (mut file, mut back, mut size) = (vec![0; 16_777_234], vec![0; mask.len()], [0; 2]);
+        let (mut file, mut back) = (vec![0; 16_777_234], vec![0; mask.len()]);
+        let (mut size, mut corner) = ([0; 2], [9; 2]);
         assert!(write(&mask, [4096; 2], &mut file) == Ok(16_777_233));
-        assert!(read(&file[..16_777_233], &mut back, &mut size) == Ok(()));
-        assert!(back == mask && size == [4096; 2]);
-        assert!(read(&file, &mut back, &mut size) == Err(15));
+        let written = &file[..16_777_233];
+        assert!(read(written, &mut back, &mut size, &mut corner) == Ok(()));
+        assert!(back == mask && size == [4096; 2] && corner == [0; 2]);
+        assert!(read(&file, &mut back, &mut size, &mut corner) == Err(15));
     }
 }

@@ -18,6 +18,7 @@ pub enum Step {
         /// which mask: 0 the running one, 1 the next
         mask: usize,
         size: [usize; 2],
+        corner: [i32; 2],
         words: Vec<i32>,
         /// how many scratch floats and counters are lent
         scratch: [usize; 2],
@@ -25,6 +26,11 @@ pub enum Step {
     Lay {
         sizes: [[usize; 2]; 2],
         offset: [i32; 2],
+    },
+    /// laying on by corners
+    LayPlaced {
+        sizes: [[usize; 2]; 2],
+        corners: [[i32; 2]; 2],
     },
 }
 
@@ -34,13 +40,19 @@ pub struct Chain {
     pub masks: [Rc<[u8]>; 2],
     pub steps: Vec<Step>,
     pub reckoned: bool,
+    /// whether the reckoner follows it to its end, where its maker knows
+    pub meant: Option<bool>,
 }
+
+/// The kind of a laying-on by corners.
+pub const PLACED: &str = "lay_placed";
 
 impl Step {
     pub fn kind(&self) -> &'static str {
         match self {
             Step::Draw { .. } => "draw",
             Step::Lay { .. } => "lay",
+            Step::LayPlaced { .. } => PLACED,
         }
     }
 }
@@ -52,11 +64,15 @@ impl fmt::Display for Step {
             Step::Draw {
                 mask,
                 size: [width, height],
+                corner: [x, y],
                 words,
                 scratch: [floats, counters],
             } => {
                 let name = NAMES[*mask];
-                write!(f, "draw {name} {width} {height} {floats} {counters}")?;
+                write!(
+                    f,
+                    "draw_at {name} {width} {height} {x} {y} {floats} {counters}"
+                )?;
                 words.iter().try_for_each(|word| write!(f, " {word}"))
             }
             Step::Lay { sizes, offset } => {
@@ -66,6 +82,13 @@ impl fmt::Display for Step {
                     .into_iter()
                     .try_for_each(|side| write!(f, " {side}"))?;
                 offset.iter().try_for_each(|by| write!(f, " {by}"))
+            }
+            Step::LayPlaced { sizes, corners } => {
+                write!(f, "lay_at")?;
+                let mut records = sizes.iter().zip(corners);
+                records.try_for_each(|([width, height], [x, y])| {
+                    write!(f, " {width} {height} {x} {y}")
+                })
             }
         }
     }
@@ -116,6 +139,7 @@ impl Chain {
     fn changed(&self, change: impl FnOnce(&mut Chain)) -> Chain {
         let mut chain = self.clone();
         change(&mut chain);
+        chain.meant = None;
         chain
     }
 
@@ -170,6 +194,7 @@ impl Running<'_> {
         &mut self,
         mask: usize,
         size: [usize; 2],
+        corner: [i32; 2],
         words: &[i32],
         lent: [usize; 2],
     ) -> Result<u8, String> {
@@ -177,6 +202,7 @@ impl Running<'_> {
         let new = library::draw(
             self.new[mask].lend(),
             size,
+            corner,
             words,
             scratch.floats.lend(),
             scratch.counters.lend(),
@@ -197,6 +223,15 @@ impl Running<'_> {
         let new = library::lay(run.lend(), sizes[0], next.lent(), sizes[1], offset);
         let [run, next] = &mut self.old;
         let old = calls::lay(run, sizes[0], next, sizes[1], offset);
+        agreed(new, old, "the Rust")
+    }
+
+    fn lay_placed(&mut self, sizes: [[usize; 2]; 2], corners: [[i32; 2]; 2]) -> Result<u8, String> {
+        let ([size, met], [corner, place]) = (sizes, corners);
+        let [run, next] = &mut self.new;
+        let new = library::lay_placed(run.lend(), size, corner, next.lent(), met, place);
+        let [run, next] = &mut self.old;
+        let old = calls::lay_placed(run, size, corner, next, met, place);
         agreed(new, old, "the Rust")
     }
 
@@ -222,16 +257,7 @@ impl Running<'_> {
         };
         let [run, next] = &self.new;
         let buffers = [run.lent(), next.lent()];
-        let lengths = buffers.map(|bytes| bytes.len());
-        let answer = match step {
-            Step::Draw {
-                mask,
-                size,
-                words,
-                scratch: [floats, counters],
-            } => reckoner.draw(*mask, *size, words, [lengths[*mask], *floats, *counters]),
-            Step::Lay { sizes, offset } => reckoner.lay(*sizes, *offset, lengths),
-        };
+        let answer = reckoned(reckoner, step, buffers.map(|bytes| bytes.len()));
         agreed(number, answer, "the reckoner")?;
         if answer.is_err() || !reckoner.follows() {
             return Ok(());
@@ -239,6 +265,10 @@ impl Running<'_> {
         match step {
             Step::Draw { .. } => closeness.drawings += 1,
             Step::Lay { .. } => closeness.layings += 1,
+            Step::LayPlaced { .. } => {
+                closeness.layings += 1;
+                closeness.placed += 1;
+            }
         }
         reckoner.check(buffers, closeness)
     }
@@ -248,14 +278,44 @@ impl Running<'_> {
             Step::Draw {
                 mask,
                 size,
+                corner,
                 words,
                 scratch,
-            } => self.draw(*mask, *size, words, *scratch)?,
+            } => self.draw(*mask, *size, *corner, words, *scratch)?,
             Step::Lay { sizes, offset } => self.lay(*sizes, *offset)?,
+            Step::LayPlaced { sizes, corners } => self.lay_placed(*sizes, *corners)?,
         };
         self.same()?;
         self.reckon(step, number, closeness)?;
         Ok(number)
+    }
+
+    /// Whether the reckoner has followed the chain to its end just where it should.
+    fn end(&self, meant: Option<bool>) -> Result<(), String> {
+        let follows = self.reckoner.as_ref().map(Reckoner::follows);
+        match (follows, meant) {
+            (Some(true), Some(false)) => Err("the reckoner follows, and should not".into()),
+            (Some(false), Some(true)) => Err("the reckoner does not follow, and should".into()),
+            _ => Ok(()),
+        }
+    }
+}
+
+/// The reckoner's answer to a call, with masks of so many bytes.
+fn reckoned(reckoner: &mut Reckoner, step: &Step, lengths: [usize; 2]) -> Result<(), Refused> {
+    match step {
+        Step::Draw {
+            mask,
+            size,
+            corner,
+            words,
+            scratch: [floats, counters],
+        } => {
+            let lent = [lengths[*mask], *floats, *counters];
+            reckoner.draw(*mask, *size, *corner, words, lent)
+        }
+        Step::Lay { sizes, offset } => reckoner.lay(*sizes, *offset, lengths),
+        Step::LayPlaced { sizes, corners } => reckoner.lay_placed(*sizes, *corners, lengths),
     }
 }
 
@@ -282,5 +342,64 @@ pub fn compare(
         let answer = running.step(step, closeness);
         answers.push(answer.map_err(|found| format!("call {at} of the chain: {found}"))?);
     }
+    running.end(chain.meant)?;
     Ok(answers)
+}
+
+#[cfg(test)]
+mod tests {
+    use super::*;
+
+    #[test]
+    fn lines() {
+        let draw = Step::Draw {
+            mask: 1,
+            size: [2, 3],
+            corner: [i32::MAX, -4],
+            words: vec![0, 1, 0],
+            scratch: [17, 5],
+        };
+        assert!(draw.to_string() == "draw_at next 2 3 2147483647 -4 17 5 0 1 0");
+        let (sizes, corners) = ([[1, 2], [3, 4]], [[-5, 6], [7, -8]]);
+        let lay = Step::LayPlaced { sizes, corners };
+        assert!(lay.to_string() == "lay_at 1 2 -5 6 3 4 7 -8");
+    }
+
+    #[test]
+    fn own_corner_minus_the_others() {
+        for (corner, other, cells) in [
+            ([1, 0], [0, 0], [10, 0, 0]),
+            ([0, 0], [1, 0], [0, 20, 30]),
+            ([0, 1], [0, 0], [0, 0, 0]),
+            ([-7, 9], [-6, 9], [0, 20, 30]),
+        ] {
+            let mut mask = [10, 20, 30];
+            let answer = calls::lay_placed(&mut mask, [3, 1], corner, &[255; 2], [2, 1], other);
+            assert!(answer == Ok(()) && mask == cells);
+        }
+    }
+
+    /// The Rust's answer for masks of one cell at corners, and what becomes of the cell.
+    fn one_cell(corner: [i32; 2], other: [i32; 2]) -> (Result<(), Refused>, u8) {
+        let mut mask = [200];
+        let answer = calls::lay_placed(&mut mask, [1, 1], corner, &[128], [1, 1], other);
+        (answer, mask[0])
+    }
+
+    #[test]
+    fn corners_at_the_ends() {
+        let far = 1_048_576;
+        assert!(one_cell([far, -far], [far, -far]) == (Ok(()), 100));
+        assert!(one_cell([far, 0], [-far, 0]) == (Ok(()), 0));
+        for (corner, other) in [
+            ([i32::MAX, 0], [-1, 0]),
+            ([i32::MIN, 0], [1, 0]),
+            ([0, i32::MIN], [0, i32::MIN]),
+            ([0, -1], [0, i32::MAX]),
+            ([0, 0], [i32::MIN, 0]),
+            ([i32::MAX, i32::MAX], [i32::MIN, i32::MIN]),
+        ] {
+            assert!(one_cell(corner, other) == (Err(16), 200));
+        }
+    }
 }

@@ -5,6 +5,7 @@ use crate::{
     random::Random,
 };
 use femtovg::calls::Drawing;
+use std::rc::Rc;
 
 /// Bytes enough for a long mask.
 const LONG: usize = 400;
@@ -14,10 +15,16 @@ struct Maker<'a> {
     random: &'a mut Random,
     /// few cells and points, for the reckoner
     few: bool,
-    /// whether layings are given sizes that are not those held
+    /// whether layings are given sizes and corners that are not those held
     loose: bool,
     lengths: [usize; 2],
     held: [[usize; 2]; 2],
+    /// the corners held
+    corners: [[i32; 2]; 2],
+    /// each mask's last done drawing
+    drawn: [Option<Step>; 2],
+    /// whether every done laying-on is given the sizes held, and every one by corners the corners held
+    meant: bool,
 }
 
 /// Few cells, or one long column or row where the buffer has room for it.
@@ -57,6 +64,16 @@ fn many_bytes(random: &mut Random) -> usize {
     }
 }
 
+/// Corner numbers that turn a laying-on by corners away.
+const OUT_OF_RANGE: [i32; 6] = [
+    -LIMIT - 1,
+    LIMIT + 1,
+    i32::MIN,
+    i32::MIN + 1,
+    i32::MAX - 1,
+    i32::MAX,
+];
+
 /// A side that is too large.
 fn oversize(random: &mut Random) -> usize {
     random.pick(&[4097, 4098, 65_536, usize::MAX])
@@ -78,8 +95,29 @@ impl Maker<'_> {
         size
     }
 
+    /// A corner for a mask, mostly near the other's.
+    fn corner(&mut self, mask: usize) -> [i32; 2] {
+        let near = self.corners[1 - mask];
+        near.map(|near| drawings::corner_number(self.random, near))
+    }
+
+    /// The last done drawing of a mask, at another corner.
+    fn again(&mut self, mask: usize) -> Option<Step> {
+        let mut step = self.drawn[mask].clone()?;
+        if let Step::Draw { corner, .. } = &mut step {
+            *corner = self.corner(mask);
+        }
+        Some(step)
+    }
+
     fn draw(&mut self, mask: usize) -> Step {
-        let (size, random) = (self.size(mask), &mut *self.random);
+        if self.random.one_in(5) {
+            if let Some(step) = self.again(mask) {
+                return step;
+            }
+        }
+        let (size, corner) = (self.size(mask), self.corner(mask));
+        let random = &mut *self.random;
         let groups = if self.few {
             drawings::few_groups(random, size)
         } else {
@@ -96,6 +134,7 @@ impl Maker<'_> {
         Step::Draw {
             mask,
             size,
+            corner,
             words,
             scratch,
         }
@@ -152,7 +191,8 @@ impl Maker<'_> {
         }
     }
 
-    fn lay(&mut self) -> Step {
+    /// The sizes that a laying-on is given.
+    fn sizes(&mut self) -> [[usize; 2]; 2] {
         let mut sizes = self.held;
         if self.loose && self.random.one_in(2) {
             sizes = [0, 1].map(|mask| self.fitting(mask));
@@ -161,17 +201,54 @@ impl Maker<'_> {
             let mask = self.random.below(2);
             sizes[mask] = self.unfitting(mask);
         }
+        sizes
+    }
+
+    fn lay(&mut self) -> Step {
+        let sizes = self.sizes();
         let [size, other] = sizes;
         let offset = [0, 1].map(|axis| self.offset(size[axis], other[axis]));
         Step::Lay { sizes, offset }
     }
 
+    /// The corners that a laying-on is given: mostly those held, at times with one number another or out of range.
+    fn given_corners(&mut self) -> [[i32; 2]; 2] {
+        let mut corners = self.corners;
+        if self.loose && self.random.one_in(2) {
+            corners = [0, 1].map(|mask| self.corner(mask));
+        }
+        let number = &mut corners[self.random.below(2)][self.random.below(2)];
+        match self.random.below(16) {
+            0 | 1 => *number = drawings::corner_number(self.random, *number),
+            2 => *number = self.random.pick(&OUT_OF_RANGE),
+            _ => {}
+        }
+        corners
+    }
+
+    fn lay_placed(&mut self) -> Step {
+        let (sizes, corners) = (self.sizes(), self.given_corners());
+        Step::LayPlaced { sizes, corners }
+    }
+
     fn step(&mut self) -> Step {
+        let undrawn = self.drawn.iter().position(Option::is_none);
+        if let Some(mask) = undrawn.filter(|_| !self.random.one_in(4)) {
+            return self.draw(mask);
+        }
         match self.random.below(8) {
             0 | 1 => self.draw(0),
             2 | 3 => self.draw(1),
-            _ => self.lay(),
+            4 | 5 => self.lay(),
+            _ => self.lay_placed(),
         }
+    }
+
+    /// Whether these sizes turn a laying-on away.
+    fn too_large(&self, sizes: &[[usize; 2]; 2]) -> bool {
+        sizes.iter().zip(self.lengths).any(|(size, length)| {
+            size.iter().any(|side| *side > 4096) || size[0] * size[1] > length
+        })
     }
 
     fn refused(&self, step: &Step) -> bool {
@@ -181,18 +258,31 @@ impl Maker<'_> {
                 size,
                 words,
                 scratch: [floats, counters],
+                ..
             } => Drawing::check(*size, words, [self.lengths[*mask], *floats, *counters]).is_err(),
-            Step::Lay { sizes, .. } => sizes.iter().zip(self.lengths).any(|(size, length)| {
-                size.iter().any(|side| *side > 4096) || size[0] * size[1] > length
-            }),
+            Step::Lay { sizes, .. } => self.too_large(sizes),
+            Step::LayPlaced { sizes, corners } => {
+                let mut numbers = corners.iter().flatten();
+                numbers.any(|number| *number < -LIMIT || LIMIT < *number) || self.too_large(sizes)
+            }
         }
     }
 
-    /// Keeps the size of a done drawing.
+    /// Keeps the size and the corner of a done drawing, and whether a done laying-on is given what is held.
     fn hold(&mut self, step: &Step) {
-        if let Step::Draw { mask, size, .. } = step {
-            if !self.refused(step) {
-                self.held[*mask] = *size;
+        if self.refused(step) {
+            return;
+        }
+        match step {
+            Step::Draw {
+                mask, size, corner, ..
+            } => {
+                (self.held[*mask], self.corners[*mask]) = (*size, *corner);
+                self.drawn[*mask] = Some(step.clone());
+            }
+            Step::Lay { sizes, .. } => self.meant &= *sizes == self.held,
+            Step::LayPlaced { sizes, corners } => {
+                self.meant &= (*sizes, *corners) == (self.held, self.corners);
             }
         }
     }
@@ -220,6 +310,10 @@ impl Maker<'_> {
     }
 }
 
+fn rubbish(random: &mut Random, length: usize) -> Rc<[u8]> {
+    (0..length).map(|_| random.bits() as u8).collect()
+}
+
 /// A chain of any calls; `few` is one that the reckoner follows.
 pub fn chain(random: &mut Random, few: bool) -> Chain {
     let lengths = [0, 1].map(|_| {
@@ -229,7 +323,7 @@ pub fn chain(random: &mut Random, few: bool) -> Chain {
             many_bytes(random)
         }
     });
-    let masks = lengths.map(|length| (0..length).map(|_| random.bits() as u8).collect());
+    let masks = lengths.map(|length| rubbish(random, length));
     let loose = random.one_in(8);
     let mut maker = Maker {
         random,
@@ -237,12 +331,16 @@ pub fn chain(random: &mut Random, few: bool) -> Chain {
         loose,
         lengths,
         held: [[0, 0]; 2],
+        corners: [[0, 0]; 2],
+        drawn: [None, None],
+        meant: true,
     };
     let steps = maker.steps();
     Chain {
         masks,
         steps,
         reckoned: few,
+        meant: Some(maker.meant),
     }
 }
 
@@ -285,14 +383,87 @@ pub fn swept_layings() -> impl Iterator<Item = Laid> {
 /// A chain of one laying-on, of rubbish on rubbish, with up to two bytes behind each mask.
 pub fn laying((sizes, offset): Laid, random: &mut Random) -> Chain {
     let masks = sizes.map(|[width, height]| {
-        let length = width * height + random.below(3);
-        (0..length).map(|_| random.bits() as u8).collect()
+        let past = random.below(3);
+        rubbish(random, width * height + past)
     });
+    one(masks, Step::Lay { sizes, offset })
+}
+
+fn one(masks: [Rc<[u8]>; 2], step: Step) -> Chain {
     Chain {
         masks,
-        steps: vec![Step::Lay { sizes, offset }],
+        steps: vec![step],
         reckoned: false,
+        meant: None,
     }
+}
+
+// ---- the sweep by corners
+
+/// The sizes and the corners of a laying-on by corners, and which masks are short by one byte.
+pub type Placed = ([[usize; 2]; 2], [[i32; 2]; 2], [bool; 2]);
+
+/// Every two sizes with sides up to here are laid on each other by corners.
+const PLACED_SIDE: usize = 2;
+
+/// All layings-on by corners of small masks that overlap, touch or lie just apart.
+fn small_placed() -> impl Iterator<Item = Placed> {
+    let sides = || 0..=PLACED_SIDE;
+    let size = move || sides().flat_map(move |width| sides().map(move |height| [width, height]));
+    let sizes = size().flat_map(move |own| size().map(move |other| [own, other]));
+    let apart = || -(PLACED_SIDE as i32) - 1..=PLACED_SIDE as i32 + 1;
+    let corners = move || {
+        let place = [5, -2];
+        let own = apart().flat_map(move |x| apart().map(move |y| [place[0] + x, place[1] + y]));
+        own.map(move |own| [own, place])
+    };
+    sizes.flat_map(move |sizes| corners().map(move |corners| (sizes, corners, [false, false])))
+}
+
+/// Corner numbers at the limits, one inside and one beyond them, and at the ends of 32 bits.
+const ENDS: [i32; 10] = [
+    0,
+    -LIMIT,
+    LIMIT,
+    1 - LIMIT,
+    LIMIT - 1,
+    -LIMIT - 1,
+    LIMIT + 1,
+    i32::MIN,
+    i32::MAX,
+    -1,
+];
+
+/// Every two of these numbers along either axis, for masks that are lent whole, are short or are too large.
+fn far_placed() -> impl Iterator<Item = Placed> {
+    let sizes = [[3, 2], [2, 3]];
+    let given = [
+        (sizes, [false, false]),
+        (sizes, [true, false]),
+        (sizes, [false, true]),
+        (sizes, [true, true]),
+        ([[3, 4097], [2, 3]], [true, false]),
+        ([[3, 2], [4097, 3]], [false, true]),
+    ];
+    let pairs = || ENDS.iter().flat_map(|own| ENDS.map(|other| [*own, other]));
+    let across = pairs().map(|[own, other]| [[own, 1], [other, 0]]);
+    let down = pairs().map(|[own, other]| [[0, own], [1, other]]);
+    let corners = across.chain(down);
+    corners.flat_map(move |corners| given.map(|(sizes, short)| (sizes, corners, short)))
+}
+
+pub fn swept_placed() -> impl Iterator<Item = Placed> {
+    small_placed().chain(far_placed())
+}
+
+/// A chain of one laying-on by corners, of rubbish on rubbish.
+pub fn placed((sizes, corners, short): Placed, random: &mut Random) -> Chain {
+    let masks = [0, 1].map(|mask| {
+        let ([width, height], past) = (sizes[mask], random.below(3));
+        let cells = width * height;
+        rubbish(random, if short[mask] { cells - 1 } else { cells + past })
+    });
+    one(masks, Step::LayPlaced { sizes, corners })
 }
 
 #[cfg(test)]
@@ -311,5 +482,48 @@ mod tests {
             let mut sizes = laid.0.iter().zip(&masks);
             sizes.all(|([width, height], mask)| (0..3).contains(&(mask.len() - width * height)))
         }));
+    }
+
+    #[test]
+    fn swept_by_corners() {
+        let (sides, apart) = (PLACED_SIDE + 1, 2 * PLACED_SIDE + 3);
+        assert!(small_placed().count() == sides.pow(4) * apart.pow(2));
+        assert!(far_placed().count() == 2 * ENDS.len().pow(2) * 6);
+        for (mask, axis) in [(0, 0), (0, 1), (1, 0), (1, 1)] {
+            for number in ENDS {
+                let at = |(_, corners, _): &Placed| corners[mask][axis] == number;
+                assert!(far_placed().filter(at).count() >= 6 * ENDS.len());
+            }
+        }
+    }
+
+    /// Whether two masks at corners have cells in common.
+    fn overlap(sizes: &[[usize; 2]; 2], corners: &[[i32; 2]; 2]) -> bool {
+        (0..2).all(|axis| {
+            let by = corners[0][axis] as i64 - corners[1][axis] as i64;
+            -(sizes[0][axis] as i64) < by && by < sizes[1][axis] as i64
+        })
+    }
+
+    #[test]
+    fn layings_by_corners() {
+        let random = &mut Random::new(1);
+        let chains: Vec<Chain> = (0..4000).map(|_| chain(random, true)).collect();
+        let steps = || chains.iter().flat_map(|chain| &chain.steps);
+        let placed = || {
+            steps().filter_map(|step| match step {
+                Step::LayPlaced { sizes, corners } => Some((sizes, corners)),
+                _ => None,
+            })
+        };
+        let all = placed().count();
+        let overlapping = placed().filter(|(sizes, corners)| overlap(sizes, corners));
+        let beyond = |number: &i32| OUT_OF_RANGE.contains(number);
+        let refused = placed().filter(|(_, corners)| corners.iter().flatten().any(beyond));
+        assert!(all > 2000 && overlapping.count() > all / 2);
+        assert!(refused.count() > all / 20);
+        let meant = chains.iter().filter(|chain| chain.meant == Some(true));
+        let meant = meant.count();
+        assert!(meant > 2000 && chains.len() - meant > 150);
     }
 }

@@ -210,6 +210,22 @@ pub fn scratch(size: [usize; 2], points: usize) -> [usize; 2] {
     [width + 15 * points, width.div_ceil(64) + height + 1]
 }
 
+/// A corner's number: mostly near another, at times far from it, at the limits of laying on by corners and one
+/// beyond them, at the ends of what a drawing takes, or any.
+pub fn corner_number(random: &mut Random, near: i32) -> i32 {
+    let near = near.clamp(-LIMIT, LIMIT);
+    match random.below(160) {
+        0 => random.bits() as i32,
+        1 => random.pick(&[i32::MIN, i32::MAX]),
+        2 => random.pick(&[-LIMIT - 1, LIMIT + 1]),
+        3 | 4 => random.pick(&[-LIMIT, LIMIT]),
+        5 => random.whole(-LIMIT, LIMIT),
+        6..=9 => near + random.whole(-40, 40),
+        10..=59 => near + random.whole(-2, 2),
+        _ => near,
+    }
+}
+
 /// A chain of one drawing.
 pub fn drawing(random: &mut Random) -> Chain {
     let size = size(random);
@@ -223,6 +239,7 @@ pub fn drawing(random: &mut Random) -> Chain {
     let draw = Step::Draw {
         mask: 0,
         size,
+        corner: [0, 0].map(|near| corner_number(random, near)),
         words,
         scratch: scratch(size, points(&groups)).map(|needed| lent(random, needed)),
     };
@@ -233,6 +250,7 @@ pub fn drawing(random: &mut Random) -> Chain {
         ],
         steps: vec![draw],
         reckoned: false,
+        meant: None,
     }
 }
 

@@ -22,6 +22,8 @@ mod c {
             mask_length: usize,
             width: usize,
             height: usize,
+            x: i32,
+            y: i32,
             words: *const i32,
             words_length: usize,
             floats: *mut f32,
@@ -41,6 +43,20 @@ mod c {
             offset_x: i32,
             offset_y: i32,
         ) -> u8;
+        pub fn beamnettle_lay_placed(
+            mask: *mut u8,
+            mask_length: usize,
+            width: usize,
+            height: usize,
+            x: i32,
+            y: i32,
+            other: *const u8,
+            other_length: usize,
+            other_width: usize,
+            other_height: usize,
+            other_x: i32,
+            other_y: i32,
+        ) -> u8;
         pub fn beamnettle_write_pgm(
             mask: *const u8,
             mask_length: usize,
@@ -56,6 +72,8 @@ mod c {
             mask_length: usize,
             size: *mut usize,
             size_length: usize,
+            corner: *mut i32,
+            corner_length: usize,
         ) -> u8;
         pub fn beamnettle_fit(
             verbs: *const u8,
@@ -205,6 +223,7 @@ mod c {
 pub fn draw(
     mask: &mut [u8],
     size: [usize; 2],
+    corner: [i32; 2],
     words: &[i32],
     floats: &mut [f32],
     counters: &mut [u64],
@@ -216,6 +235,8 @@ pub fn draw(
             mask.len(),
             width,
             height,
+            corner[0],
+            corner[1],
             words.as_ptr(),
             words.len(),
             floats.as_mut_ptr(),
@@ -249,6 +270,32 @@ pub fn lay(
     }
 }
 
+pub fn lay_placed(
+    mask: &mut [u8],
+    size: [usize; 2],
+    corner: [i32; 2],
+    other: &[u8],
+    other_size: [usize; 2],
+    other_corner: [i32; 2],
+) -> u8 {
+    unsafe {
+        c::beamnettle_lay_placed(
+            mask.as_mut_ptr(),
+            mask.len(),
+            size[0],
+            size[1],
+            corner[0],
+            corner[1],
+            other.as_ptr(),
+            other.len(),
+            other_size[0],
+            other_size[1],
+            other_corner[0],
+            other_corner[1],
+        )
+    }
+}
+
 pub fn write_pgm(mask: &[u8], size: [usize; 2], file: &mut [u8]) -> u32 {
     let [width, height] = size;
     unsafe {
@@ -263,7 +310,7 @@ pub fn write_pgm(mask: &[u8], size: [usize; 2], file: &mut [u8]) -> u32 {
     }
 }
 
-pub fn read_pgm(file: &[u8], mask: &mut [u8], size: &mut [usize]) -> u8 {
+pub fn read_pgm(file: &[u8], mask: &mut [u8], size: &mut [usize], corner: &mut [i32]) -> u8 {
     unsafe {
         c::beamnettle_read_pgm(
             file.as_ptr(),
@@ -272,6 +319,8 @@ pub fn read_pgm(file: &[u8], mask: &mut [u8], size: &mut [usize]) -> u8 {
             mask.len(),
             size.as_mut_ptr(),
             size.len(),
+            corner.as_mut_ptr(),
+            corner.len(),
         )
     }
 }

@@ -80,9 +80,18 @@ impl Counts {
         println!("differs: {difference}\n{calls}");
     }
 
+    fn show_placed(&self) {
+        let none = BTreeMap::new();
+        let numbers = self.answers.get(chain::PLACED).unwrap_or(&none);
+        let all: u64 = numbers.values().sum();
+        let done = numbers.get(&library::DONE).unwrap_or(&0);
+        let reckoned = self.closeness.placed;
+        println!("layings-on by corners: {all}, done {done}, reckoned {reckoned}");
+    }
+
     fn show(&self) {
         // 10 is given to nothing
-        let causes = (1..=15).filter(|number| *number != 10);
+        let causes = (1..=16).filter(|number| *number != 10);
         let causes = causes.map(|number| (number, number.to_string()));
         let columns: Vec<(u8, String)> = std::iter::once((library::DONE, "done".into()))
             .chain(causes)
@@ -104,8 +113,10 @@ impl Counts {
             drawings,
             layings,
             cells,
+            ..
         } = self.closeness;
         println!("chains: {}", self.chains);
+        self.show_placed();
         self.touches.show();
         self.curves.show();
         self.files.show();
@@ -166,7 +177,8 @@ fn put_chain(chain: Chain, drawing: &mut Drawing, random: &mut Random, counts: &
 }
 
 /// The calls that every run has: each byte of small PGM headers at every value, each width and height;
-/// small masks of all sizes, and the tallest, laid on each other.
+/// small masks of all sizes, and the tallest, laid on each other; small masks laid on each other by corners,
+/// and corners at their limits.
 fn put_sweep(drawing: &mut Drawing, random: &mut Random, counts: &mut Counts) {
     for call in pgm_files::headers().chain(pgm_files::sizes()) {
         if counts.differ < MOST_DIFFERENCES {
@@ -176,6 +188,11 @@ fn put_sweep(drawing: &mut Drawing, random: &mut Random, counts: &mut Counts) {
     for laid in chains::swept_layings() {
         if counts.differ < MOST_DIFFERENCES {
             put_chain(chains::laying(laid, random), drawing, random, counts);
+        }
+    }
+    for placed in chains::swept_placed() {
+        if counts.differ < MOST_DIFFERENCES {
+            put_chain(chains::placed(placed, random), drawing, random, counts);
         }
     }
 }

@@ -25,15 +25,15 @@ pub enum Call {
     Read {
         made: Made,
         file: Vec<u8>,
-        /// how many bytes are lent for the mask, and numbers for its size
-        lent: [usize; 2],
+        /// how many bytes are lent for the mask, and numbers for its size and its corner
+        lent: [usize; 3],
     },
     /// What is written, which is not refused, is read.
     RoundTrip {
         mask: Vec<u8>,
         size: [usize; 2],
         file: usize,
-        lent: [usize; 2],
+        lent: [usize; 3],
     },
 }
 
@@ -60,9 +60,15 @@ fn write_lines(
     write!(f, "write_pgm run {width} {height} {file}")
 }
 
-fn read_lines(f: &mut fmt::Formatter, file: &[u8], [mask, size]: [usize; 2]) -> fmt::Result {
-    if size != 2 {
-        writeln!(f, "# so many numbers are lent for the size: {size}")?;
+fn read_lines(
+    f: &mut fmt::Formatter,
+    file: &[u8],
+    [mask, size, corner]: [usize; 3],
+) -> fmt::Result {
+    for (name, numbers) in [("size", size), ("corner", corner)] {
+        if numbers != 2 {
+            writeln!(f, "# so many numbers are lent for the {name}: {numbers}")?;
+        }
     }
     writeln!(f, "bufn next {mask} 9")?;
     write!(f, "read_pgm next {}\nshow next", Bytes(file))
@@ -122,7 +128,9 @@ impl Call {
                 let answer = read(random, &written, *lent)?;
                 let cells = &mask[..size[0] * size[1]];
                 if answer.as_ref().is_ok_and(|mask| !mask.is(*size, cells)) {
-                    return Err("another size or other cells read than written".into());
+                    return Err(
+                        "another size or other cells read than written, or not at (0, 0)".into(),
+                    );
                 }
                 Ok(number(&answer))
             }
@@ -137,15 +145,19 @@ fn number<T>(answer: &Result<T, Refused>) -> u8 {
     answer.as_ref().err().copied().unwrap_or(library::DONE)
 }
 
-/// A mask that was read: what was lent for its size and its cells.
+/// A mask that was read: what was lent for its size, its corner and its cells.
 struct Mask {
     size: Vec<usize>,
+    corner: Vec<i32>,
     bytes: Vec<u8>,
 }
 
 impl Mask {
+    /// Whether it has this size and these cells and stands at (0, 0).
     fn is(&self, size: [usize; 2], cells: &[u8]) -> bool {
-        self.size.starts_with(&size) && self.bytes.starts_with(cells)
+        self.size.starts_with(&size)
+            && self.corner.starts_with(&[0, 0])
+            && self.bytes.starts_with(cells)
     }
 }
 
@@ -187,24 +199,28 @@ fn write(random: &mut Random, mask: &[u8], size: [usize; 2], length: usize) -> C
 }
 
 /// Reads a file into so many bytes and numbers.
-fn read(random: &mut Random, file: &[u8], lent: [usize; 2]) -> Compared<Mask> {
+fn read(random: &mut Random, file: &[u8], lent: [usize; 3]) -> Compared<Mask> {
     let file = Lent::holding(file, || random.bits() as u8);
     let mut mask = Lent::new(lent[0], || random.bits() as u8);
     let mut size = Lent::new(lent[1], || random.bits() as usize);
+    let mut corner = Lent::new(lent[2], || random.bits() as i32);
     let (mut cells, mut sides) = (mask.lent().to_vec(), size.lent().to_vec());
-    let old = netpbm::read(file.lent(), &mut cells, &mut sides);
-    let new = library::read_pgm(file.lent(), mask.lend(), size.lend());
+    let mut place = corner.lent().to_vec();
+    let old = netpbm::read(file.lent(), &mut cells, &mut sides, &mut place);
+    let new = library::read_pgm(file.lent(), mask.lend(), size.lend(), corner.lend());
     let number = number(&old);
     if new != number {
         return Err(format!("number {new}, expected {number}"));
     }
     held("the mask", &mask, &cells)?;
     held("the size", &size, &sides)?;
+    held("the corner", &corner, &place)?;
     if !file.kept(0, u8::eq) {
         return Err(changed());
     }
     Ok(old.map(|()| Mask {
         size: size.lent().to_vec(),
+        corner: corner.lent().to_vec(),
         bytes: mask.lent().to_vec(),
     }))
 }

@@ -67,14 +67,18 @@ fn write(random: &mut Random) -> Call {
     }
 }
 
-/// How many bytes are lent for so many cells, and how many numbers for the size.
-fn lent_to_read(random: &mut Random, count: usize) -> [usize; 2] {
-    let numbers = match random.below(12) {
+/// How many numbers are lent where two are written.
+fn numbers(random: &mut Random) -> usize {
+    match random.below(16) {
         0 => random.below(2),
         1 | 2 => 3 + random.below(3),
         _ => 2,
-    };
-    [lent(random, count), numbers]
+    }
+}
+
+/// How many bytes are lent for so many cells, and how many numbers for the size and for the corner.
+fn lent_to_read(random: &mut Random, count: usize) -> [usize; 3] {
+    [lent(random, count), numbers(random), numbers(random)]
 }
 
 fn round_trip(random: &mut Random) -> Call {
@@ -282,7 +286,7 @@ fn varied(header: &[u8], raster: &[u8]) -> Vec<Vec<u8>> {
 /// Every variation of the small files, read with more memory than it takes and with one byte too few.
 pub fn headers() -> impl Iterator<Item = Call> {
     let files = SWEPT.iter().flat_map(|(header, raster)| {
-        let lent = [[raster.len() + 3, 3], [raster.len() - 1, 2]];
+        let lent = [[raster.len() + 3, 3, 4], [raster.len() - 1, 2, 2]];
         let file = move |file: Vec<u8>| lent.map(|lent| (file.clone(), lent));
         varied(header, raster).into_iter().flat_map(file)
     });
@@ -302,7 +306,7 @@ pub fn sizes() -> impl Iterator<Item = Call> {
             mask: (0..count).map(|at| (at * 7 % 251) as u8).collect(),
             size,
             file: netpbm::header(size).len() + count,
-            lent: [count, 2],
+            lent: [count, 2, 2],
         }
     })
 }
@@ -317,7 +321,7 @@ mod tests {
         for call in calls {
             if let Call::Read { file, lent, .. } = call {
                 let (mut mask, mut size) = (vec![0; lent[0]], vec![0; lent[1]]);
-                let answer = netpbm::read(&file, &mut mask, &mut size);
+                let answer = netpbm::read(&file, &mut mask, &mut size, &mut vec![0; lent[2]]);
                 counts[answer.err().unwrap_or(0) as usize] += 1;
             }
         }

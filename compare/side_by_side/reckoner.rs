@@ -1,11 +1,13 @@
 //! Document 01's reckoner: what each cell of a chain's two masks should be, in exact fractions,
 //! and how far its byte may lie from that. Written from the paragraphs 'Exact winding' and 'The
-//! reckoner'; it is given the arguments of the calls and nothing of the engines'.
+//! reckoner', and for corners from document 02's change 8; it is given the arguments of the calls and
+//! nothing of the engines'.
 use crate::{chain::NAMES, fraction::Fraction};
 
 const LARGEST_SIDE: usize = 4096;
 const MOST_POINTS: usize = 2048;
 const LARGEST_COORDINATE: i64 = 1_048_576;
+const LARGEST_CORNER: i64 = 1_048_576;
 
 /// A number of the table of causes.
 pub type Refused = u8;
@@ -40,11 +42,13 @@ struct Cell {
 #[derive(Default)]
 struct Mask {
     size: [usize; 2],
+    corner: [i32; 2],
     cells: Vec<Cell>,
 }
 
 /// 'For the running and the next mask it holds a width, a height and, per cell, a share and an
-/// allowed difference. At first both are 0 by 0.'
+/// allowed difference. At first both are 0 by 0.' It 'also holds each mask's corner, (0, 0) at first
+/// and then the one given with that mask's last done drawing'.
 #[derive(Default)]
 pub struct Reckoner {
     masks: [Mask; 2],
@@ -58,6 +62,8 @@ pub struct Closeness {
     pub largest: f64,
     pub drawings: u64,
     pub layings: u64,
+    /// layings-on by corners
+    pub placed: u64,
     pub cells: u64,
 }
 
@@ -229,11 +235,15 @@ fn row_of_cells(groups: &[Group], width: usize, row: usize) -> Vec<Cell> {
 }
 
 impl Mask {
-    fn drawn(size: [usize; 2], groups: &[Group]) -> Self {
+    fn drawn(size: [usize; 2], corner: [i32; 2], groups: &[Group]) -> Self {
         let rows = 0..size[1];
         let cells = rows.flat_map(|row| row_of_cells(groups, size[0], row));
         let cells = cells.collect();
-        Self { size, cells }
+        Self {
+            size,
+            corner,
+            cells,
+        }
     }
 
     /// The cell at a column and a row, if there is one.
@@ -246,11 +256,11 @@ impl Mask {
     /// 'Where the next mask has a cell at the place met, the running cell's share is multiplied by
     /// that cell's, and its allowed difference grows by that cell's and a half. Elsewhere the share
     /// becomes 0, and the allowed difference grows by a half.'
-    fn lay(&mut self, next: &Mask, offset: [i32; 2]) {
+    fn lay(&mut self, next: &Mask, offset: [i64; 2]) {
         let width = self.size[0];
         for (at, cell) in self.cells.iter_mut().enumerate() {
             let place = [at % width, at / width];
-            let met = [0, 1].map(|axis| place[axis] as i64 + offset[axis] as i64);
+            let met = [0, 1].map(|axis| place[axis] as i64 + offset[axis]);
             cell.allowed = cell.allowed.plus(&half());
             if let Some(other) = next.at(met) {
                 cell.share = cell.share.times(&other.share);
@@ -278,6 +288,14 @@ fn check_length(length: usize, [width, height]: [usize; 2]) -> Result<(), Refuse
     Ok(())
 }
 
+fn check_corner(corner: [i32; 2]) -> Result<(), Refused> {
+    let beyond = |number: &i32| (*number as i64).abs() > LARGEST_CORNER;
+    if corner.iter().any(beyond) {
+        return Err(16);
+    }
+    Ok(())
+}
+
 impl Reckoner {
     /// A drawing of the running mask (0) or the next (1). `lent` is how many mask bytes, scratch
     /// floats and scratch counters there are.
@@ -285,6 +303,7 @@ impl Reckoner {
         &mut self,
         mask: usize,
         size: [usize; 2],
+        corner: [i32; 2],
         words: &[i32],
         lent: [usize; 3],
     ) -> Result<(), Refused> {
@@ -304,7 +323,7 @@ impl Reckoner {
             return Err(4);
         }
         if self.follows() {
-            self.masks[mask] = Mask::drawn(size, &groups);
+            self.masks[mask] = Mask::drawn(size, corner, &groups);
         }
         Ok(())
     }
@@ -319,16 +338,42 @@ impl Reckoner {
         check_sides(&sizes)?;
         check_length(lent[0], sizes[0])?;
         check_length(lent[1], sizes[1])?;
+        self.laid(sizes, offset.map(i64::from));
+        Ok(())
+    }
+
+    /// The same by corners: 'Laying on then takes the offset as own corner minus the other's.'
+    pub fn lay_placed(
+        &mut self,
+        sizes: [[usize; 2]; 2],
+        corners: [[i32; 2]; 2],
+        lent: [usize; 2],
+    ) -> Result<(), Refused> {
+        check_sides(&sizes)?;
+        check_corner(corners[0])?;
+        check_corner(corners[1])?;
+        check_length(lent[0], sizes[0])?;
+        check_length(lent[1], sizes[1])?;
+        let [own, other] = self.masks.each_ref().map(|mask| mask.corner);
+        self.strayed |= corners != [own, other];
+        self.laid(
+            sizes,
+            [0, 1].map(|axis| own[axis] as i64 - other[axis] as i64),
+        );
+        Ok(())
+    }
+
+    /// A done laying-on, with the sizes given for both.
+    fn laid(&mut self, sizes: [[usize; 2]; 2], offset: [i64; 2]) {
         let [run, next] = &mut self.masks;
         self.strayed |= sizes != [run.size, next.size];
         if !self.strayed {
             run.lay(next, offset);
         }
-        Ok(())
     }
 
-    /// 'In the lists meant, a done laying-on is given the sizes held.' Others are not followed
-    /// beyond that call.
+    /// 'In the lists meant, a done laying-on is given the sizes held', and one by corners 'is given the
+    /// corners held'. Others are not followed beyond that call.
     pub fn follows(&self) -> bool {
         !self.strayed
     }
@@ -372,7 +417,7 @@ mod tests {
     /// The shares of a drawing two cells wide and one high, with their allowed differences.
     fn drawn(words: &[i32]) -> Vec<(Fraction, Fraction)> {
         let mut reckoner = Reckoner::default();
-        assert!(reckoner.draw(0, [2, 1], words, [2, 1000, 3]) == Ok(()));
+        assert!(reckoner.draw(0, [2, 1], [0, 0], words, [2, 1000, 3]) == Ok(()));
         let cells = &reckoner.masks[0].cells;
         let pair = |cell: &Cell| (cell.share.clone(), cell.allowed.clone());
         cells.iter().map(pair).collect()
@@ -414,10 +459,9 @@ mod tests {
     fn layings() {
         let mut reckoner = Reckoner::default();
         let lent = [3, 1000, 5];
-        let wide = [0, 1, 4, 0, 0, 640, 0, 640, 256, 0, 256];
         assert!(reckoner.lay([[0, 0]; 2], [7, -7], [0, 0]) == Ok(()));
-        assert!(reckoner.draw(0, [3, 1], &wide, lent) == Ok(()));
-        assert!(reckoner.draw(1, [2, 1], &wide, lent) == Ok(()));
+        assert!(reckoner.draw(0, [3, 1], [0, 0], &WIDE, lent) == Ok(()));
+        assert!(reckoner.draw(1, [2, 1], [0, 0], &WIDE, lent) == Ok(()));
         assert!(reckoner.lay([[3, 1], [2, 1]], [-1, 0], [3, 3]) == Ok(()));
         let cells = &reckoner.masks[0].cells;
         for (cell, (share, allowed)) in cells.iter().zip([(0, 6), (2, 11), (1, 11)]) {
@@ -428,10 +472,99 @@ mod tests {
         assert!(!reckoner.follows());
     }
 
+    const WIDE: [i32; 11] = [0, 1, 4, 0, 0, 640, 0, 640, 256, 0, 256];
+
+    /// A reckoner that has drawn both masks, three cells wide and two, at these corners.
+    fn both_drawn(corners: [[i32; 2]; 2]) -> Reckoner {
+        let mut reckoner = Reckoner::default();
+        for (mask, width) in [(0, 3), (1, 2)] {
+            let drawn = reckoner.draw(mask, [width, 1], corners[mask], &WIDE, [3, 1000, 5]);
+            assert!(drawn == Ok(()));
+        }
+        reckoner
+    }
+
+    /// The shares of the running mask, in halves.
+    fn halves(reckoner: &Reckoner) -> Vec<f64> {
+        let cells = reckoner.masks[0].cells.iter();
+        cells.map(|cell| 2.0 * cell.share.near()).collect()
+    }
+
+    #[test]
+    fn layings_by_corners() {
+        let far = 1_048_576;
+        for (corners, shares) in [
+            ([[4, -7], [4, -7]], [2.0, 2.0, 0.0]),
+            ([[1, 0], [0, 0]], [2.0, 0.0, 0.0]),
+            ([[0, 5], [1, 5]], [0.0, 2.0, 1.0]),
+            ([[0, 1], [0, 0]], [0.0, 0.0, 0.0]),
+            ([[far - 1, -far], [far, -far]], [0.0, 2.0, 1.0]),
+            ([[far, far], [-far, -far]], [0.0, 0.0, 0.0]),
+        ] {
+            let mut reckoner = both_drawn(corners);
+            assert!(reckoner.lay_placed([[3, 1], [2, 1]], corners, [3, 3]) == Ok(()));
+            assert!(reckoner.follows() && halves(&reckoner) == shares);
+        }
+    }
+
+    #[test]
+    fn corners_held() {
+        let mut reckoner = Reckoner::default();
+        let held = |reckoner: &Reckoner| reckoner.masks.each_ref().map(|mask| mask.corner);
+        assert!(reckoner.lay_placed([[0, 0]; 2], [[0, 0]; 2], [0, 0]) == Ok(()));
+        assert!(reckoner.follows());
+        let mut reckoner = both_drawn([[1, 2], [3, 4]]);
+        assert!(held(&reckoner) == [[1, 2], [3, 4]]);
+        assert!(reckoner.draw(0, [3, 1], [9, 9], &WIDE[1..], [3, 1000, 5]) == Err(5));
+        assert!(held(&reckoner) == [[1, 2], [3, 4]]);
+        assert!(reckoner.draw(0, [3, 1], [5, i32::MIN], &WIDE, [3, 1000, 5]) == Ok(()));
+        assert!(held(&reckoner) == [[5, i32::MIN], [3, 4]]);
+        assert!(reckoner.lay([[3, 1], [2, 1]], [0, 0], [3, 3]) == Ok(()));
+        assert!(held(&reckoner) == [[5, i32::MIN], [3, 4]]);
+        assert!(reckoner.draw(0, [3, 1], [5, 4], &WIDE, [3, 1000, 5]) == Ok(()));
+        assert!(reckoner.lay_placed([[3, 1], [2, 1]], [[5, 4], [3, 4]], [3, 3]) == Ok(()));
+        assert!(held(&reckoner) == [[5, 4], [3, 4]] && reckoner.follows());
+    }
+
+    #[test]
+    fn layings_not_followed() {
+        let (sizes, corners) = ([[3, 1], [2, 1]], [[1, 2], [3, 4]]);
+        for (mask, axis) in [(0, 0), (0, 1), (1, 0), (1, 1)] {
+            let mut other = corners;
+            other[mask][axis] += 1;
+            let mut reckoner = both_drawn(corners);
+            assert!(reckoner.lay_placed(sizes, other, [3, 3]) == Ok(()));
+            assert!(!reckoner.follows());
+        }
+        let mut reckoner = both_drawn(corners);
+        assert!(reckoner.lay_placed([[2, 1], [2, 1]], corners, [3, 3]) == Ok(()));
+        assert!(!reckoner.follows());
+    }
+
+    #[test]
+    fn refused_corners() {
+        let lay = |sizes, corners, lent| Reckoner::default().lay_placed(sizes, corners, lent);
+        for (mask, axis) in [(0, 0), (0, 1), (1, 0), (1, 1)] {
+            let at = |number| {
+                let mut corners = [[0, 0]; 2];
+                corners[mask][axis] = number;
+                corners
+            };
+            for number in [1_048_576, -1_048_576] {
+                assert!(lay([[1, 1]; 2], at(number), [1, 1]) == Ok(()));
+                assert!(lay([[1, 1]; 2], at(number), [1, 0]) == Err(4));
+            }
+            for number in [1_048_577, -1_048_577, i32::MAX, i32::MIN] {
+                assert!(lay([[1, 1]; 2], at(number), [0, 0]) == Err(16));
+                assert!(lay([[1, 1], [1, 4097]], at(number), [1, 1]) == Err(3));
+            }
+        }
+    }
+
     #[test]
     fn refusals() {
         let mut reckoner = Reckoner::default();
-        let mut draw = |size, words: &[i32], lent| reckoner.draw(0, size, words, lent);
+        let mut draw = |size, words: &[i32], lent| reckoner.draw(0, size, [0, 0], words, lent);
         assert!(draw([4097, 1], &[0], [0; 3]) == Err(3));
         assert!(draw([2, 1], &[0], [1, 0, 0]) == Err(4));
         assert!(draw([2, 1], &[0], [2, 0, 0]) == Err(5));

@@ -113,7 +113,7 @@ fn draw(name: &str, size: [usize; 2], groups: &[Vec<Contour>]) {
     let mut counters = vec![0; width.div_ceil(64) + height + 1];
     let (key, mut scratch) = (Key::new(size, words.clone()), Scratch::default());
     assert_eq!(
-        library::draw(&mut mask, size, &words, &mut floats, &mut counters),
+        library::draw(&mut mask, size, [0, 0], &words, &mut floats, &mut counters),
         library::DONE
     );
     assert!(key.draw(&mut scratch) == mask, "{name}: masks differ");
@@ -126,6 +126,7 @@ fn draw(name: &str, size: [usize; 2], groups: &[Vec<Contour>]) {
             black_box(library::draw(
                 black_box(&mut mask),
                 size,
+                [0, 0],
                 &words,
                 &mut floats,
                 &mut counters,
@@ -206,26 +207,57 @@ fn drawn(size: [usize; 2], groups: &[Vec<Contour>]) -> Vec<u8> {
         .to_vec()
 }
 
-/// Lays the other mask on a fresh copy of the mask.
-fn lay(name: &str, sizes: [[usize; 2]; 2], own: &[u8], other: &[u8], offset: [i32; 2]) {
-    let [size, met] = sizes;
-    let (mut old, mut new) = (own.to_vec(), own.to_vec());
-    assert_eq!(calls::lay(&mut old, size, other, met, offset), Ok(()));
-    assert_eq!(
-        library::lay(&mut new, size, other, met, offset),
-        library::DONE
-    );
-    assert!(old == new, "{name}: masks differ");
+/// Times laying on a fresh copy of the mask.
+fn laid(
+    name: &str,
+    own: &[u8],
+    old: impl Fn(&mut [u8]) -> Result<(), u8>,
+    new: impl Fn(&mut [u8]) -> u8,
+) {
+    let (mut one, mut two) = (own.to_vec(), own.to_vec());
+    assert_eq!(old(&mut one), Ok(()));
+    assert_eq!(new(&mut two), library::DONE);
+    assert!(one == two, "{name}: masks differ");
     line(
         name,
         &mut || {
-            old.copy_from_slice(own);
-            let _ = black_box(calls::lay(black_box(&mut old), size, other, met, offset));
+            one.copy_from_slice(own);
+            let _ = black_box(old(black_box(&mut one)));
         },
         &mut || {
-            new.copy_from_slice(own);
-            black_box(library::lay(black_box(&mut new), size, other, met, offset));
+            two.copy_from_slice(own);
+            black_box(new(black_box(&mut two)));
         },
+    );
+}
+
+/// Lays the other mask on a mask by an offset.
+fn lay(name: &str, sizes: [[usize; 2]; 2], own: &[u8], other: &[u8], offset: [i32; 2]) {
+    let [size, met] = sizes;
+    laid(
+        name,
+        own,
+        |mask| calls::lay(mask, size, other, met, offset),
+        |mask| library::lay(mask, size, other, met, offset),
+    );
+}
+
+/// The same two masks by an offset and by corners as far apart.
+fn lay_both_ways(own: &[u8], other: &[u8]) {
+    let (size, corner, place) = ([1024; 2], [340, -20], [240, 40]);
+    let sizes = [size; 2];
+    lay(
+        "lay, 1,024 x 1,024, offset 100 -60",
+        sizes,
+        own,
+        other,
+        [100, -60],
+    );
+    laid(
+        "lay_placed, 1,024 x 1,024, corners 340 -20 and 240 40",
+        own,
+        |mask| calls::lay_placed(mask, size, corner, other, size, place),
+        |mask| library::lay_placed(mask, size, corner, other, size, place),
     );
 }
 
@@ -242,13 +274,7 @@ fn layings() {
     let square = |side: usize| [[side; 2]; 2];
     let (own, other) = of(1024);
     lay("lay, 1,024 x 1,024", square(1024), &own, &other, [0, 0]);
-    lay(
-        "lay, 1,024 x 1,024, offset 100 -60",
-        square(1024),
-        &own,
-        &other,
-        [100, -60],
-    );
+    lay_both_ways(&own, &other);
     let grey: Vec<u8> = (0..1024 * 1024).map(|i| (i * 7 % 256) as u8).collect();
     lay(
         "lay, 1,024 x 1,024, all grey",
@@ -295,19 +321,24 @@ fn write_pgm(size: [usize; 2], mask: &[u8]) -> Vec<u8> {
 
 fn read_pgm(file: &[u8], mask: &[u8]) {
     let (mut old, mut new) = (vec![0; mask.len()], vec![0; mask.len()]);
-    assert_eq!(netpbm::read(file, &mut old, &mut [0; 2]), Ok(()));
+    let (mut size, mut corner) = ([0; 2], [0; 2]);
+    assert_eq!(netpbm::read(file, &mut old, &mut size, &mut corner), Ok(()));
     assert_eq!(
-        library::read_pgm(file, &mut new, &mut [0; 2]),
+        library::read_pgm(file, &mut new, &mut size, &mut corner),
         library::DONE
     );
     assert!(old == mask && new == mask, "masks differ");
     line(
         "read_pgm, 512 x 512 (old: not femtovg's)",
         &mut || {
-            let _ = black_box(netpbm::read(black_box(file), &mut old, &mut [0; 2]));
+            let (mut size, mut corner) = ([0; 2], [0; 2]);
+            let answer = netpbm::read(black_box(file), &mut old, &mut size, &mut corner);
+            let _ = black_box((answer, size, corner));
         },
         &mut || {
-            black_box(library::read_pgm(black_box(file), &mut new, &mut [0; 2]));
+            let (mut size, mut corner) = ([0; 2], [0; 2]);
+            let answer = library::read_pgm(black_box(file), &mut new, &mut size, &mut corner);
+            black_box((answer, size, corner));
         },
     );
 }

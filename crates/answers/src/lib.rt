@@ -1,4 +1,5 @@
 // The engine's answers, written one a line.
+use cells::Corner;
 use cells::Size;
 use clip_coverage::ClipCoverage;
 use clip_coverage::DistanceAnswer;
@@ -52,17 +53,30 @@ pub fn written(answer: WriteAnswer, file: &[u8]) {
     }
 }
 
-fn size_line(size: Size) {
+fn signed(n: i32) {
+    if n < 0 {
+        writing::write(b" -");
+        io::print_decimal(STDOUT_FILENO, (-(n as i64)) as u64);
+        return;
+    }
+    writing::write(b" ");
+    io::print_decimal(STDOUT_FILENO, n as u64);
+}
+
+fn record_line(size: Size, corner: Corner) {
     writing::write(b"size ");
     io::print_decimal(STDOUT_FILENO, size.width as u64);
     writing::write(b" ");
     io::print_decimal(STDOUT_FILENO, size.height as u64);
+    writing::write(b" corner");
+    signed(corner.x);
+    signed(corner.y);
     writing::write(b"\n");
 }
 
 pub fn read(answer: ReadAnswer) {
     match answer {
-        ReadAnswer::Read(size) => size_line(size),
+        ReadAnswer::Read(r) => record_line(r.size, r.corner),
         ReadAnswer::Refused(fault) => refused(fault),
     }
 }

@@ -6,9 +6,10 @@ use lib.IntN.{ℤ}
 use lib.Ieee.{Float}
 use lib.ListN.{length}
 use Rattle.laying.specs.Laying.{Laying, laying}
-use Rattle.mask.specs.Calls.{Drawing, drawing, lent, drawAnswer, maskAfterDrawing, floatsAfterDrawing, countersAfterDrawing, layAnswer, maskAfterLaying}
+use Rattle.laying.specs.Placed.{Placed, placed, byOffset}
+use Rattle.mask.specs.Calls.{Drawing, drawing, lent, drawAnswer, maskAfterDrawing, floatsAfterDrawing, countersAfterDrawing, layAnswer, maskAfterLaying, layPlacedAnswer}
 
--- ---- masks: a size and an offset are plain numbers here. The calls' answers: mask/specs/Calls.antt
+-- ---- masks: a size, an offset and a corner are plain numbers here. The calls' answers: mask/specs/Calls.antt
 
 abbrev pub drawingLent : ℕ → ℕ → List ℤ → List Float → List ℕ → Drawing
 drawingLent width height words floats counters = drawing (record { width = width; height = height }) words floats counters
@@ -30,3 +31,12 @@ layingLent width height otherWidth otherHeight x y =
 -- what a laying-on leaves of the mask
 abbrev pub maskLaid : Laying → List ℕ → List ℕ → List ℕ
 maskLaid l mask other = maskAfterLaying (layAnswer l (lent mask) (length other)) l mask other
+
+-- by corners
+abbrev pub placedLent : ℕ → ℕ → ℤ → ℤ → ℕ → ℕ → ℤ → ℤ → Placed
+placedLent width height x y otherWidth otherHeight otherX otherY =
+    placed (record { size = record { width = width; height = height }; corner = record { x = x; y = y } })
+    (record { size = record { width = otherWidth; height = otherHeight }; corner = record { x = otherX; y = otherY } })
+
+abbrev pub maskLaidPlaced : Placed → List ℕ → List ℕ → List ℕ
+maskLaidPlaced p mask other = maskAfterLaying (layPlacedAnswer p (lent mask) (length other)) (byOffset p) mask other

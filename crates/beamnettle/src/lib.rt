@@ -1,21 +1,23 @@
 // The kiosk's C library: the documents' calls over numbers and lent slices. include/beamnettle.h says
 // what each does in words; each contract gives its number and all that is lent afterwards outright.
+use cells::Corner;
+use cells::MaskRecord;
 use cells::Size;
 use laying::Offset;
 use shape::RoundedBox;
 ghost use mathlib.Core.Path.{_≡_};
 ghost use lib.ListN.{length};
-ghost use Rattle.mask.specs.Calls.{lent, outcomeNumber, drawAnswer, layAnswer};
+ghost use Rattle.mask.specs.Calls.{lent, outcomeNumber, drawAnswer, layAnswer, layPlacedAnswer};
 ghost use Rattle.touch.specs.Touch.{pointOf, touchCall};
 ghost use Rattle.boundary.specs.Answers.{after, boxHanded, coverageHanded, boundsHanded, distanceHanded, testNumber, touchNumber};
-ghost use Rattle.boundary.specs.Answers.{bothBoxHanded, bothCoverageHanded, fillHanded, outlineHanded, cutHanded, writeNumber, readNumber, sizeAfter};
+ghost use Rattle.boundary.specs.Answers.{bothBoxHanded, bothCoverageHanded, fillHanded, outlineHanded, cutHanded, writeNumber, readNumber, sizeAfter, cornerAfter};
 ghost use Rattle.pgm.specs.Calls.{maskAfterReading};
 ghost use Rattle.pgm_exports.specs.Calls.{writeLent, fileWritten, readLent};
 ghost use Rattle.outline_exports.specs.Calls.{fitLent, fitOutlineLent, fitWithCutLent};
 ghost use Rattle.box_exports.specs.Calls.{transformedLent, intersectionLent, rectIntersectionLent, coverageLent};
 ghost use Rattle.box_exports.specs.Calls.{boundsLent, distanceLent, parallelLent, containsLent};
 ghost use Rattle.window_exports.specs.Calls.{withScissorLent, trimmedScissorLent, rectFillLent, uprightRectLent, reachLent, holdsLent};
-ghost use Rattle.beamnettle.specs.Calls.{drawingLent, maskDrawn, floatsDrawn, countersDrawn, layingLent, maskLaid};
+ghost use Rattle.beamnettle.specs.Calls.{drawingLent, maskDrawn, floatsDrawn, countersDrawn, layingLent, maskLaid, placedLent, maskLaidPlaced};
 
 // ---- masks
 
@@ -24,6 +26,8 @@ pub extern "C" fn beamnettle_draw(
     mask: &mut [u8],
     width: usize,
     height: usize,
+    x: i32,
+    y: i32,
     words: &[i32],
     floats: &mut [f32],
     counters: &mut [u64],
@@ -36,7 +40,9 @@ pub extern "C" fn beamnettle_draw(
         ≡ countersDrawn (drawingLent width height (now (words .entry)) (now (floats .entry)) (now (counters .entry))) (now (mask .entry)) (now (counters .entry)) ⌝ }
 {
     let size = Size { width, height };
-    boundary::outcome_number(mask::rasterize_into(mask, size, words, floats, counters))
+    let corner = Corner { x, y };
+    let mask_record = MaskRecord { size, corner };
+    boundary::outcome_number(mask::rasterize_into(mask, mask_record, words, floats, counters))
 }
 
 #[no_mangle]
@@ -65,6 +71,39 @@ pub extern "C" fn beamnettle_lay(
     boundary::outcome_number(mask::intersect(mask, own_size, other, other_size, offset))
 }
 
+#[no_mangle]
+pub extern "C" fn beamnettle_lay_placed(
+    mask: &mut [u8],
+    width: usize,
+    height: usize,
+    x: i32,
+    y: i32,
+    other: &[u8],
+    other_width: usize,
+    other_height: usize,
+    other_x: i32,
+    other_y: i32,
+) -> u8
+    ensures number { λ r. ⌜ r ≡ outcomeNumber (layPlacedAnswer (placedLent width height x y «other_width» «other_height» «other_x» «other_y») (lent (now (mask .entry))) (length (now (other .entry)))) ⌝ }
+    ensures cells { λ _. ⌜ now (mask .exit) ≡ maskLaidPlaced (placedLent width height x y «other_width» «other_height» «other_x» «other_y») (now (mask .entry)) (now (other .entry)) ⌝ }
+{
+    let own = MaskRecord {
+        size: Size { width, height },
+        corner: Corner { x, y },
+    };
+    let other_record = MaskRecord {
+        size: Size {
+            width: other_width,
+            height: other_height,
+        },
+        corner: Corner {
+            x: other_x,
+            y: other_y,
+        },
+    };
+    boundary::outcome_number(mask::intersect_placed(mask, own, other, other_record))
+}
+
 // ---- masks as files: crate pgm_exports has the calls
 
 #[no_mangle]
@@ -81,12 +120,21 @@ pub extern "C" fn beamnettle_write_pgm(
 }
 
 #[no_mangle]
-pub extern "C" fn beamnettle_read_pgm(file: &[u8], mask: &mut [u8], size: &mut [usize]) -> u8
-    ensures number { λ r. ⌜ r ≡ readNumber (readLent (now (file .entry)) (now (mask .entry)) (length (now (size .entry)))) ⌝ }
-    ensures cells { λ _. ⌜ now (mask .exit) ≡ maskAfterReading (readLent (now (file .entry)) (now (mask .entry)) (length (now (size .entry)))) (now (file .entry)) (now (mask .entry)) ⌝ }
-    ensures size { λ _. ⌜ now (size .exit) ≡ sizeAfter (readLent (now (file .entry)) (now (mask .entry)) (length (now (size .entry)))) (now (size .entry)) ⌝ }
+pub extern "C" fn beamnettle_read_pgm(
+    file: &[u8],
+    mask: &mut [u8],
+    size: &mut [usize],
+    corner: &mut [i32],
+) -> u8
+    ensures number { λ r. ⌜ r ≡ readNumber (readLent (now (file .entry)) (now (mask .entry)) (length (now (size .entry))) (length (now (corner .entry)))) ⌝ }
+    ensures cells { λ _. ⌜ now (mask .exit)
+        ≡ maskAfterReading (readLent (now (file .entry)) (now (mask .entry)) (length (now (size .entry))) (length (now (corner .entry)))) (now (file .entry)) (now (mask .entry)) ⌝ }
+    ensures size { λ _. ⌜ now (size .exit)
+        ≡ sizeAfter (readLent (now (file .entry)) (now (mask .entry)) (length (now (size .entry))) (length (now (corner .entry)))) (now (size .entry)) ⌝ }
+    ensures corner { λ _. ⌜ now (corner .exit)
+        ≡ cornerAfter (readLent (now (file .entry)) (now (mask .entry)) (length (now (size .entry))) (length (now (corner .entry)))) (now (corner .entry)) ⌝ }
 {
-    pgm_exports::read_pgm(file, mask, size)
+    pgm_exports::read_pgm(file, mask, size, corner)
 }
 
 // ---- outlines: crate outline_exports has the calls

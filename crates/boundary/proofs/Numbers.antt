@@ -169,7 +169,7 @@ write-within (write.Written n) low high = absurd (outside (counted n) low high)
 write-within (write.Refused f) low high = (f, refl)
 
 read-within : (a : ReadAnswer) → 1 ≤ readNumber a → readNumber a ≤ 31 → (f : Fault) × (a ≡ read.Refused f)
-read-within (read.Read size) low high = absurd (outside done low high)
+read-within (read.Read r) low high = absurd (outside done low high)
 read-within (read.Refused f) low high = (f, refl)
 
 pub numbers-apart : NumbersApart

@@ -4,6 +4,7 @@
 use Prim.Native.Nat.{ℕ}
 use mathlib.Core.Bool.{cond}
 use mathlib.Core.List.{List, [], _∷_}
+use lib.IntN.{ℤ}
 use lib.ListN.{drop}
 use lib.Ieee.{Float}
 use Rattle.fault.specs.declared.Fault.{Fault}
@@ -132,7 +133,7 @@ touchNumber (touched.Frame k) = ordinaryNumber (counted k)
 touchNumber touched.NoFrame = ordinaryNumber noFrame
 touchNumber (touched.Refused f) = numberOf f
 
--- ---- files (document 02, change 4)
+-- ---- files (document 02, changes 4 and 8)
 
 -- 'The writer returns the file's length'
 abbrev pub writeNumber : WriteAnswer → ℕ
@@ -140,10 +141,16 @@ writeNumber (write.Written n) = ordinaryNumber (counted n)
 writeNumber (write.Refused f) = numberOf f
 
 abbrev pub readNumber : ReadAnswer → ℕ
-readNumber (read.Read size) = ordinaryNumber done
+readNumber (read.Read r) = ordinaryNumber done
 readNumber (read.Refused f) = numberOf f
 
--- what is lent for the size of a mask that is read, afterwards: its width, its height, and what was past them
+-- what is lent for the record of a mask that is read, afterwards: for its size, its width, its height, and what was past
+-- them
 abbrev pub sizeAfter : ReadAnswer → List ℕ → List ℕ
-sizeAfter (read.Read size) lent = size .width ∷ size .height ∷ drop 2 lent
+sizeAfter (read.Read r) lent = r .size .width ∷ r .size .height ∷ drop 2 lent
 sizeAfter (read.Refused f) lent = lent
+
+-- and for its corner (change 8), x, y, and what was past them
+abbrev pub cornerAfter : ReadAnswer → List ℤ → List ℤ
+cornerAfter (read.Read r) lent = r .corner .x ∷ r .corner .y ∷ drop 2 lent
+cornerAfter (read.Refused f) lent = lent

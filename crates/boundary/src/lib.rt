@@ -21,7 +21,7 @@ ghost use lib.ListN.{length};
 ghost use Rattle.mask.specs.Calls.{outcomeNumber};
 ghost use Rattle.boundary.specs.Answers.{after, boxHanded, coverageHanded, boundsHanded, distanceHanded};
 ghost use Rattle.boundary.specs.Answers.{bothBoxHanded, bothCoverageHanded, rectFillHanded, fillHanded, outlineHanded, cutHanded, reachHanded, testNumber, touchNumber};
-ghost use Rattle.boundary.specs.Answers.{writeNumber, readNumber, sizeAfter};
+ghost use Rattle.boundary.specs.Answers.{writeNumber, readNumber, sizeAfter, cornerAfter};
 
 const DONE: u8 = 0;
 
@@ -244,15 +244,20 @@ pub fn write_number(answer: WriteAnswer) -> u32
     }
 }
 
-pub fn hand_size(answer: ReadAnswer, size: &mut [usize]) -> u8
-    requires { ⌜ 2 ≤ length (now size) ⌝ }
+pub fn hand_record(answer: ReadAnswer, size: &mut [usize], corner: &mut [i32]) -> u8
+    requires { ⌜ (2 ≤ length (now size)) × (2 ≤ length (now corner)) ⌝ }
     ensures { λ r. ⌜ r ≡ readNumber answer ⌝ }
     ensures { λ _. ⌜ now (size .exit) ≡ sizeAfter answer (now (size .entry)) ⌝ }
+    ensures { λ _. ⌜ now (corner .exit) ≡ cornerAfter answer (now (corner .entry)) ⌝ }
 {
     match answer {
         ReadAnswer::Read(read) => {
-            size[0] = read.width;
-            size[1] = read.height;
+            size[0] = read.size.width;
+            size[1] = read.size.height;
+            let x = read.corner.x;
+            let y = read.corner.y;
+            corner[0] = x;
+            corner[1] = y;
             DONE
         }
         ReadAnswer::Refused(fault) => fault.number(),

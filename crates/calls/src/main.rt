@@ -72,6 +72,10 @@ fn answer(
         let problem = mask_calls::lay(line, name.end, run, s.run, next, s.next);
         return kept(s, s.run, s.next, problem);
     }
+    if fields::is(line, name, b"lay_at") {
+        let problem = mask_calls::lay_at(line, name.end, run, s.run, next, s.next);
+        return kept(s, s.run, s.next, problem);
+    }
     kept(s, s.run, s.next, shape_calls::answer(line, name))
 }
 

@@ -1,9 +1,10 @@
-// A mask's cells: its size, and lent buffers cleared and written.
+// A mask's cells: its size, its corner on the sheet, and lent buffers cleared and written.
 ghost use mathlib.Core.Path.{_≡_};
 ghost use Prim.Native.Nat.{_+_, _≤_};
 ghost use lib.ListN.{length, replicate};
 ghost use Rattle.float.specs.Ops.{f0};
 ghost use Rattle.cells.specs.Cells.{tooLarge};
+ghost use Rattle.cells.specs.Corner.{cornerNumberOut, cornerOut};
 ghost use Rattle.cells.specs.Over.{over};
 
 // A mask's size in cells. Its bytes are lent beside it, one a cell, rows first.
@@ -21,6 +22,35 @@ impl Size {
     {
         Size::MOST_CELLS < self.width || Size::MOST_CELLS < self.height
     }
+}
+
+// Where a mask's corner lies on the sheet, in cells: its cell (column, row) lies at (x + column, y + row).
+pub struct Corner {
+    pub x: i32,
+    pub y: i32,
+}
+
+impl Corner {
+    // The largest size of a corner's number, where masks are laid on by corners.
+    pub const LARGEST_NUMBER: i32 = 1048576;
+
+    fn is_beyond(n: i32) -> bool
+        ensures { λ r. ⌜ r ≡ cornerNumberOut n ⌝ }
+    {
+        n < -Corner::LARGEST_NUMBER || Corner::LARGEST_NUMBER < n
+    }
+
+    pub fn is_out_of_range(self) -> bool
+        ensures { λ r. ⌜ r ≡ cornerOut self ⌝ }
+    {
+        Corner::is_beyond(self.x) || Corner::is_beyond(self.y)
+    }
+}
+
+// A mask's record: its size, and beside it its corner.
+pub struct MaskRecord {
+    pub size: Size,
+    pub corner: Corner,
 }
 
 // ---- lent buffers, cleared

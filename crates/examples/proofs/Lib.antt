@@ -1,6 +1,7 @@
--- Shown: the theorem `starred-shown`. Touched: `edges-take-a-finger`, `first-of-several`. Sheet: `sheet-of-frames`.
--- Curved: `curves-fit`.
+-- Shown: the theorem `starred-shown`. Placed: `laid-by-corners`. Touched: `edges-take-a-finger`, `first-of-several`.
+-- Sheet: `sheet-of-frames`. Curved: `curves-fit`.
 pub mod Shown
+pub mod Placed
 pub mod Touched
 pub mod Sheet
 pub mod Curved

@@ -20,6 +20,7 @@ use Rattle.fault.specs.declared.Fault.the-variants.{
   NotPgm,
   WrongDepth,
   WrongRaster,
+  CornerOutOfRange,
 }
 use Rattle.fault.specs.Number.{numberOf, CauseNumbers}
 
@@ -42,6 +43,7 @@ causeAt n = getD (
     ∷ NotPgm
     ∷ WrongDepth
     ∷ WrongRaster
+    ∷ CornerOutOfRange
     ∷ []
     ) n NumberOutOfRange
 
@@ -66,6 +68,7 @@ tabled TooManyBoxes = record { back = refl; least = omega arith; most = omega ar
 tabled NotPgm = record { back = refl; least = omega arith; most = omega arith; not-ten = λ e. omega arith }
 tabled WrongDepth = record { back = refl; least = omega arith; most = omega arith; not-ten = λ e. omega arith }
 tabled WrongRaster = record { back = refl; least = omega arith; most = omega arith; not-ten = λ e. omega arith }
+tabled CornerOutOfRange = record { back = refl; least = omega arith; most = omega arith; not-ten = λ e. omega arith }
 
 pub cause-numbers : CauseNumbers
 cause-numbers = record {

@@ -1,4 +1,4 @@
--- The number of each cause: document 01, 'What a call hands back', and document 02, changes 4 and 5. `CauseNumbers` is
+-- The number of each cause: document 01, 'What a call hands back', and document 02, changes 4, 5 and 8. `CauseNumbers` is
 -- proved in proofs/Numbers.antt.
 use mathlib.Core.Path.{_≡_}
 use Prim.Native.Nat.{ℕ, _≤_}
@@ -18,6 +18,7 @@ use Rattle.fault.specs.declared.Fault.the-variants.{
   NotPgm,
   WrongDepth,
   WrongRaster,
+  CornerOutOfRange,
 }
 
 abbrev pub numberOf : Fault → ℕ
@@ -35,6 +36,7 @@ numberOf TooManyBoxes = 12
 numberOf NotPgm = 13
 numberOf WrongDepth = 14
 numberOf WrongRaster = 15
+numberOf CornerOutOfRange = 16
 
 -- Each cause has a number of its own, from 1 to 31. 0 and the numbers past 31 are left for what a done call answers.
 -- Document 02, change 5: 'Number 10 no longer occurs, and that is shown'

@@ -36,6 +36,8 @@ pub enum Fault {
     WrongDepth,
     // 15: a raster that is not exactly width × height bytes
     WrongRaster,
+    // 16: a corner number beyond ±1,048,576, when laying on by corners
+    CornerOutOfRange,
 }
 
 impl Fault {
@@ -58,6 +60,7 @@ impl Fault {
             Fault::NotPgm => 13,
             Fault::WrongDepth => 14,
             Fault::WrongRaster => 15,
+            Fault::CornerOutOfRange => 16,
         }
     }
 }

@@ -4,5 +4,6 @@
 pub mod Offsets
 pub mod Cells
 pub mod Laid
+pub mod Placed
 pub mod Rows
 pub mod Starts

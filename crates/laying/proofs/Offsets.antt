@@ -1,9 +1,10 @@
--- A negative offset, turned round in 64 bits. Assumes nothing.
+-- A negative offset, turned round in 64 bits, and how far from 0 a sum is. Assumes nothing.
 use mathlib.Core.Path.{_≡_, refl, ap}
-use mathlib.Core.Bool.{true, false, true≢false}
-use Prim.Native.Nat.{_≤_}
+use mathlib.Core.Bool.{Bool, true, false, true≢false, cond}
+use Prim.Native.Nat.{ℕ, suc, _+_, _-_, _≤_}
 use native.Mathlib.Omega.{arith}
-use lib.IntN.{ℤ, pos, negsuc, natAbs, _-ℤ_}
+use lib.Dec.{ltb}
+use lib.IntN.{ℤ, pos, negsuc, natAbs, subℕ, _+ℤ_, _-ℤ_}
 use lib.Signed.{ltZ}
 use mir.Syntax.{w32, w64}
 use mir.Val.{SFits}
@@ -29,3 +30,18 @@ start-left (negsuc n) h = refl
 pub start-right : (z : ℤ) → ltZ z (pos 0) ≡ false → record { own = 0; other = natAbs z } ≡ startOf z
 start-right (pos n) h = refl
 start-right (negsuc n) h = absurd (true≢false h)
+
+-- ---- a sum is no further from 0 than its parts together
+
+apart-abs : (a b : ℕ) → natAbs (subℕ a (suc b)) ≤ a + suc b
+apart-abs a b = go (ltb a (suc b))
+  where
+    go : (t : Bool) → natAbs (cond t (negsuc (suc b - suc a)) (pos (a - suc b))) ≤ a + suc b
+    go true = omega arith
+    go false = omega arith
+
+pub sum-abs : (a b : ℤ) → natAbs (a +ℤ b) ≤ natAbs a + natAbs b
+sum-abs (pos a) (pos b) = omega arith
+sum-abs (pos a) (negsuc b) = apart-abs a b
+sum-abs (negsuc a) (pos b) = omega (arith, apart-abs b a)
+sum-abs (negsuc a) (negsuc b) = omega arith

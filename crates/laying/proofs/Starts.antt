@@ -1,11 +1,9 @@
 -- The starts that are kept from row to row are row times width, and fit 64 bits. Assumes nothing.
 use mathlib.Core.Path.{_≡_, refl, sym, ap, _∙_}
-use mathlib.Core.Bool.{Bool, true, false, cond}
-use Prim.Native.Nat.{ℕ, zero, suc, _+_, _-_, _*_, _<_, _≤_}
+use Prim.Native.Nat.{ℕ, zero, suc, _+_, _*_, _<_, _≤_}
 use native.Mathlib.Nat.{mul-le-mul}
 use native.Mathlib.Numerals.{add-one}
 use native.Mathlib.Omega.{arith}
-use lib.Dec.{ltb}
 use lib.IntN.{ℤ, pos, negsuc, negℤ, natAbs, _+ℤ_, _*ℤ_, sucℤ-+ℤ, sucℤ-*ℤ, +ℤ-idl, +ℤ-idr, +ℤ-comm}
 use mir.Syntax.{w32, w64}
 use mir.Val.{SFits, toZ, ofZ}
@@ -13,7 +11,7 @@ use mir.ValLaws.{toZ-ofZ, toZ-pos}
 use Rattle.laying.specs.Laying.{Laying}
 use Rattle.laying.specs.Lines.{startOf, rowMet}
 use Rattle.laying.specs.Starts.{runningStart, RowStarts, StartsKept, MetRowStart}
-use Rattle.laying.proofs.Offsets.{turned-small}
+use Rattle.laying.proofs.Offsets.{turned-small, sum-abs}
 use Rattle.laying.proofs.Rows.{from-start}
 
 -- ---- the law
@@ -62,14 +60,6 @@ product-abs : (z : ℤ) (width : ℕ) → natAbs (z *ℤ pos width) ≤ natAbs z
 product-abs (pos n) width = omega arith
 product-abs (negsuc n) width = neg-abs (suc n * width)
 
-sum-abs : (n : ℕ) (z : ℤ) → natAbs (pos n +ℤ z) ≤ n + natAbs z
-sum-abs n (pos m) = omega arith
-sum-abs n (negsuc m) = go (ltb n (suc m))
-  where
-    go : (b : Bool) → natAbs (cond b (negsuc (suc m - suc n)) (pos (n - suc m))) ≤ n + suc m
-    go true = omega arith
-    go false = omega arith
-
 abs-fits : (z : ℤ) → natAbs z < 9223372036854775808 → SFits w64 z
 abs-fits (pos n) h = record { sfits = h }
 abs-fits (negsuc n) h = record { sfits = omega arith }
@@ -81,7 +71,7 @@ pub record Near (start : ℤ) : Type 0 where
 start-near : (y : ℤ) (width row : ℕ) → SFits w32 y → width ≤ 4096 → row ≤ 4096 → Near ((pos row +ℤ y) *ℤ pos width)
 start-near y width row s h g =
     let a = turned-small y s in
-    let b = sum-abs row y in
+    let b = sum-abs (pos row) y in
     let c : natAbs (pos row +ℤ y) ≤ 2147487744 = omega arith in
     let m : natAbs (pos row +ℤ y) * width ≤ 2147487744 * 4096 = mul-le-mul c h in
     let d = product-abs (pos row +ℤ y) width in
@@ -96,7 +86,7 @@ first-fits y width s h =
 module _ {start : ℤ} {width : ℕ} (near : Near start) (wide : width ≤ 4096) where
   pub sum-fits : SFits w64 (start +ℤ toZ w64 width)
   sum-fits =
-      let b = sum-abs width start in
+      let b = sum-abs (pos width) start in
       let n = near .near in
       rw (toZ-pos w64 width (omega arith), +ℤ-comm start (pos width)) (abs-fits (pos width +ℤ start) (omega arith))
 

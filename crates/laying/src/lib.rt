@@ -1,11 +1,14 @@
 // One mask laid on another: `intersect` of coverage.rs, below its refusals.
+use cells::Corner;
 use cells::Size;
 ghost use mathlib.Core.Path.{_≡_};
 ghost use Prim.Native.Nat.{_≤_};
 ghost use lib.IntN.{pos, _*ℤ_};
 ghost use lib.ListN.{length};
 ghost use Rattle.cells.specs.Cells.{cellsOf, SizeAllowed};
+ghost use Rattle.cells.specs.Corner.{CornerAllowed};
 ghost use Rattle.laying.specs.Laying.{laying, laidByte, layingOf};
+ghost use Rattle.laying.specs.Placed.{offsetBetween};
 ghost use Rattle.laying.specs.Lines.{startOf, underOf, lineOf, rowOf};
 ghost use Rattle.laying.specs.Starts.{rowsMet, MetRowStart};
 
@@ -13,6 +16,19 @@ ghost use Rattle.laying.specs.Starts.{rowsMet, MetRowStart};
 pub struct Offset {
     pub x: i32,
     pub y: i32,
+}
+
+impl Offset {
+    // From where the corners of both lie on the sheet.
+    pub fn between(own: Corner, other: Corner) -> Offset
+        requires { ⌜ CornerAllowed own × CornerAllowed other ⌝ }
+        ensures { λ r. ⌜ r ≡ offsetBetween own other ⌝ }
+    {
+        Offset {
+            x: own.x - other.x,
+            y: own.y - other.y,
+        }
+    }
 }
 
 // The first cell of ours and the first of the other's that meet, along a row or down a column.

@@ -1,9 +1,10 @@
 -- Decided: an answer that is done where it can be, and refused for each cause, is so only then. Causes: a drawing.
--- LayCauses: a laying-on. Numbers: document 01's number of each call. Laws: a list's faults, and the cells after a
--- drawing. Scratch: a list without a fault, and the scratch that it needs.
+-- LayCauses: a laying-on. PlacedCauses: one by corners. Numbers: the documents' number of each call. Laws: a list's
+-- faults, and the cells after a drawing. Scratch: a list without a fault, and the scratch that it needs.
 pub mod Decided
 pub mod Causes
 pub mod LayCauses
+pub mod PlacedCauses
 pub mod Numbers
 pub mod Laws
 pub mod Scratch

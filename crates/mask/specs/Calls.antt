@@ -1,5 +1,5 @@
 -- The calls on masks, outright: what each answers, and all that was lent to it afterwards (document 01, 'What a call
--- hands back' and 'The masks'). Definitions only.
+-- hands back' and 'The masks'; document 02, change 8). Definitions only.
 use Prim.Native.Nat.{ℕ}
 use mathlib.Core.Bool.{Bool, cond, _||_}
 use mathlib.Core.List.{List, _++_}
@@ -7,15 +7,17 @@ use lib.Dec.{ltb}
 use lib.IntN.{ℤ}
 use lib.ListN.{length, drop, replicate}
 use lib.Ieee.{Float}
-use Rattle.fault.specs.declared.Fault.the-variants.{MaskTooLarge, BufferTooShort}
+use Rattle.fault.specs.declared.Fault.the-variants.{MaskTooLarge, BufferTooShort, CornerOutOfRange}
 use Rattle.fault.specs.Number.{numberOf}
 use Rattle.float.specs.Ops.{f0}
 use Rattle.word_list.specs.Words.{Group, pointsIn, Read, ok, fault, readWords, groupsOf}
 use Rattle.cells.specs.declared.Size.{Size}
 use Rattle.cells.specs.Cells.{cellsOf, tooLarge}
+use Rattle.cells.specs.Corner.{cornerOut}
 use Rattle.coverage.specs.Drawing.{drawingOf}
 use Rattle.coverage.specs.Scratch.{floatsNeeded, countersNeeded}
 use Rattle.laying.specs.Laying.{Laying, layingOf}
+use Rattle.laying.specs.Placed.{Placed}
 use Rattle.mask.specs.declared.Outcome.{Outcome}
 use Rattle.mask.specs.declared.Outcome.the-variants.{Done, Refused}
 
@@ -88,3 +90,13 @@ layAnswer l lent other =
 abbrev pub maskAfterLaying : Outcome → Laying → List ℕ → List ℕ → List ℕ
 maskAfterLaying Done l mask other = layingOf l mask other ++ drop (cellsOf (l .size)) mask
 maskAfterLaying (Refused f) l mask other = mask
+
+-- ---- laying one mask on another by corners. The mask afterwards is `maskAfterLaying` of `byOffset`
+-- (laying/specs/Placed.antt): 'the offset as own corner minus the other's'
+
+-- 'Laying on by corners refuses a corner number beyond ±1,048,576 with 16, own mask before the other, directly after 3.'
+abbrev pub layPlacedAnswer : Placed → Lent → ℕ → Outcome
+layPlacedAnswer p lent other =
+    cond (tooLarge (p .own .size) || tooLarge (p .other .size)) (Refused MaskTooLarge)
+    (cond (cornerOut (p .own .corner) || cornerOut (p .other .corner)) (Refused CornerOutOfRange)
+    (cond (ltb (lent .mask) (cellsOf (p .own .size)) || ltb other (cellsOf (p .other .size))) (Refused BufferTooShort) Done))

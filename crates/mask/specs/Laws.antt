@@ -1,5 +1,6 @@
--- What document 01 says of drawings and of laying on as a whole, stated of the definitions in Calls.antt. Proved in
--- proofs/Causes.antt, LayCauses.antt, Numbers.antt and Laws.antt.
+-- What document 01 says of drawings and of laying on as a whole, and document 02, change 8, of laying on by corners,
+-- stated of the definitions in Calls.antt. Proved in proofs/Causes.antt, LayCauses.antt, PlacedCauses.antt, Numbers.antt
+-- and Laws.antt.
 use mathlib.Core.Path.{_≡_}
 use mathlib.Core.Logic.{_⊎_}
 use mathlib.Core.List.{List}
@@ -8,14 +9,17 @@ use lib.IntN.{ℤ}
 use lib.ListN.{length, take}
 use Rattle.fault.specs.declared.Fault.{Fault}
 use Rattle.fault.specs.Number.{numberOf}
-use Rattle.fault.specs.declared.Fault.the-variants.{MaskTooLarge, BufferTooShort, ListEndsEarly, CountOutOfRange, CoordinateOutOfRange}
+use Rattle.fault.specs.Check.{ForItsFirstCause}
+use Rattle.fault.specs.declared.Fault.the-variants.{MaskTooLarge, BufferTooShort, CornerOutOfRange, ListEndsEarly, CountOutOfRange, CoordinateOutOfRange}
 use Rattle.word_list.specs.Words.{Group, pointsIn, fault, readWords}
 use Rattle.word_list.specs.Writer.{wordsOf, Allowed}
 use Rattle.list_fault.specs.ListFault.{FaultOf}
 use Rattle.cells.specs.Cells.{cellsOf, TooLarge, SizeAllowed}
+use Rattle.cells.specs.Corner.{CornerOut, CornerAllowed}
 use Rattle.coverage.specs.Scratch.{floatsNeeded, countersNeeded}
 use Rattle.laying.specs.Laying.{Laying}
-use Rattle.mask.specs.Calls.{Lent, Drawing, outcomeNumber, drawAnswer, maskAfterDrawing, layAnswer}
+use Rattle.laying.specs.Placed.{Placed, byOffset}
+use Rattle.mask.specs.Calls.{Lent, Drawing, outcomeNumber, drawAnswer, maskAfterDrawing, layAnswer, layPlacedAnswer}
 use Rattle.mask.specs.declared.Outcome.{Outcome}
 use Rattle.mask.specs.declared.Outcome.the-variants.{Done, Refused}
 
@@ -86,15 +90,50 @@ pub record LaidExactlyWhen : Type 0 where
   pub refused-only : (l : Laying) (lent : Lent) (other : ℕ) (f : Fault) → layAnswer l lent other ≡ Refused f → FirstLayCause l lent other f
   pub refused-always : (l : Laying) (lent : Lent) (other : ℕ) (f : Fault) → FirstLayCause l lent other f → layAnswer l lent other ≡ Refused f
 
--- ---- the same in document 01's numbers ('Where an answer is an enum, the promises use a definition that gives this
--- paper's number'): 0 where the call can be done, else that of its first cause
-pub data DrawNumber (d : Drawing) (lent : Lent) : ℕ → Type 0 where
-  drawn : CanDraw d lent → DrawNumber d lent 0
-  not-drawn : {f : Fault} → FirstCause d lent f → DrawNumber d lent (numberOf f)
+-- ---- laying on by corners
 
-pub data LayNumber (l : Laying) (lent : Lent) (other : ℕ) : ℕ → Type 0 where
-  laid : CanLay l lent other → LayNumber l lent other 0
-  not-laid : {f : Fault} → FirstLayCause l lent other f → LayNumber l lent other (numberOf f)
+-- what it asks for: corners within their limit, and what the laying-on by the offset between them asks for
+pub record CanLayPlaced (p : Placed) (lent : Lent) (other : ℕ) : Type 0 where
+  pub corner-allowed : CornerAllowed (p .own .corner)
+  pub other-corner-allowed : CornerAllowed (p .other .corner)
+  pub can-lay : CanLay (byOffset p) lent other
+
+-- why it is refused: 16 'directly after 3', so 3, 16, 4, each with none before it
+pub data FirstPlacedCause (p : Placed) (lent : Lent) (other : ℕ) : Fault → Type 0 where
+  placed-too-large : TooLarge (p .own .size) ⊎ TooLarge (p .other .size) → FirstPlacedCause p lent other MaskTooLarge
+  corner-out : SizeAllowed (p .own .size) → SizeAllowed (p .other .size) → CornerOut (p .own .corner) ⊎ CornerOut (p .other .corner)
+      → FirstPlacedCause p lent other CornerOutOfRange
+  placed-short : SizeAllowed (p .own .size) → SizeAllowed (p .other .size) → CornerAllowed (p .own .corner) → CornerAllowed (p .other .corner)
+      → (lent .mask < cellsOf (p .own .size)) ⊎ (other < cellsOf (p .other .size)) → FirstPlacedCause p lent other BufferTooShort
+
+pub record LaidPlacedExactlyWhen : Type 0 where
+  pub done-only : (p : Placed) (lent : Lent) (other : ℕ) → layPlacedAnswer p lent other ≡ Done → CanLayPlaced p lent other
+  pub done-always : (p : Placed) (lent : Lent) (other : ℕ) → CanLayPlaced p lent other → layPlacedAnswer p lent other ≡ Done
+  pub refused : (p : Placed) (lent : Lent) (other : ℕ) → ForItsFirstCause Refused (layPlacedAnswer p lent other) (FirstPlacedCause p lent other)
+
+-- Laying on by corners is laying on by the offset between them: with corners within their limit it answers what that
+-- answers, and it leaves in the mask what that leaves (both contracts cite `maskAfterLaying`). With another corner it is
+-- never done
+pub record PlacedIsByOffset : Type 0 where
+  pub within : (p : Placed) (lent : Lent) (other : ℕ) → CornerAllowed (p .own .corner) → CornerAllowed (p .other .corner)
+      → layPlacedAnswer p lent other ≡ layAnswer (byOffset p) lent other
+  pub beyond : (p : Placed) (lent : Lent) (other : ℕ) → CornerOut (p .own .corner) ⊎ CornerOut (p .other .corner)
+      → (layPlacedAnswer p lent other ≡ Refused MaskTooLarge) ⊎ (layPlacedAnswer p lent other ≡ Refused CornerOutOfRange)
+
+-- ---- the same in the documents' numbers ('Where an answer is an enum, the promises use a definition that gives this
+-- paper's number'): 0 where the call can be done, else that of its first cause
+pub data NumberFor (Can : Type 0) (Cause : Fault → Type 0) : ℕ → Type 0 where
+  is-done : Can → NumberFor Can Cause 0
+  is-refused : {f : Fault} → Cause f → NumberFor Can Cause (numberOf f)
+
+abbrev pub DrawNumber : Drawing → Lent → ℕ → Type 0
+DrawNumber d lent = NumberFor (CanDraw d lent) (FirstCause d lent)
+
+abbrev pub LayNumber : Laying → Lent → ℕ → ℕ → Type 0
+LayNumber l lent other = NumberFor (CanLay l lent other) (FirstLayCause l lent other)
+
+abbrev pub LayPlacedNumber : Placed → Lent → ℕ → ℕ → Type 0
+LayPlacedNumber p lent other = NumberFor (CanLayPlaced p lent other) (FirstPlacedCause p lent other)
 
 -- each call has one number alone, and it tells the answer
 pub record NumbersExactlyWhen : Type 0 where
@@ -102,4 +141,6 @@ pub record NumbersExactlyWhen : Type 0 where
   pub draw-always : (d : Drawing) (lent : Lent) (n : ℕ) → DrawNumber d lent n → outcomeNumber (drawAnswer d lent) ≡ n
   pub lay-only : (l : Laying) (lent : Lent) (other : ℕ) → LayNumber l lent other (outcomeNumber (layAnswer l lent other))
   pub lay-always : (l : Laying) (lent : Lent) (other n : ℕ) → LayNumber l lent other n → outcomeNumber (layAnswer l lent other) ≡ n
+  pub placed-only : (p : Placed) (lent : Lent) (other : ℕ) → LayPlacedNumber p lent other (outcomeNumber (layPlacedAnswer p lent other))
+  pub placed-always : (p : Placed) (lent : Lent) (other n : ℕ) → LayPlacedNumber p lent other n → outcomeNumber (layPlacedAnswer p lent other) ≡ n
   pub told-apart : (o p : Outcome) → outcomeNumber o ≡ outcomeNumber p → o ≡ p

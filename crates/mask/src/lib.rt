@@ -1,4 +1,5 @@
 // The public calls on masks.
+use cells::MaskRecord;
 use cells::Size;
 use fault::Check;
 use fault::Fault;
@@ -9,9 +10,10 @@ ghost use Prim.Native.Nat.{_≤_};
 ghost use lib.ListN.{length};
 ghost use Rattle.cells.specs.Cells.{cellsOf, SizeAllowed};
 ghost use Rattle.laying.specs.Laying.{laying};
-ghost use Rattle.mask.specs.Calls.{drawing, lent, outcomeNumber, drawAnswer, maskAfterDrawing, floatsAfterDrawing, countersAfterDrawing, layAnswer, maskAfterLaying};
-ghost use Rattle.mask.specs.Laws.{DrawNumber, LayNumber};
-ghost use Rattle.mask.specs.Steps.{LayChecked};
+ghost use Rattle.laying.specs.Placed.{placed, byOffset};
+ghost use Rattle.mask.specs.Calls.{drawing, lent, outcomeNumber, drawAnswer, maskAfterDrawing, floatsAfterDrawing, countersAfterDrawing, layAnswer, maskAfterLaying, layPlacedAnswer};
+ghost use Rattle.mask.specs.Laws.{DrawNumber, LayNumber, LayPlacedNumber};
+ghost use Rattle.mask.specs.Steps.{LayChecked, cornersCheck};
 ghost use Rattle.groups.specs.Steps.{ListCounted};
 
 // What a call answers: it is done, or turned away for a cause of document 01's table.
@@ -48,20 +50,21 @@ fn draw_in(
     Outcome::Done
 }
 
-// Draws a word list into a mask, over lent scratch.
+// Draws a word list into a mask, over lent scratch. Words are relative to the mask's corner, wherever that lies.
 pub fn rasterize_into(
     mask: &mut [u8],
-    size: Size,
+    mask_record: MaskRecord,
     words: &[i32],
     floats: &mut [f32],
     counters: &mut [u64],
 ) -> Outcome
-    ensures answer { λ r. ⌜ r ≡ drawAnswer (drawing size (now (words .entry)) (now (floats .entry)) (now (counters .entry))) (lent (now (mask .entry))) ⌝ }
-    ensures cells { λ r. ⌜ now (mask .exit) ≡ maskAfterDrawing r (drawing size (now (words .entry)) (now (floats .entry)) (now (counters .entry))) (now (mask .entry)) ⌝ }
+    ensures answer { λ r. ⌜ r ≡ drawAnswer (drawing («mask_record» .size) (now (words .entry)) (now (floats .entry)) (now (counters .entry))) (lent (now (mask .entry))) ⌝ }
+    ensures cells { λ r. ⌜ now (mask .exit) ≡ maskAfterDrawing r (drawing («mask_record» .size) (now (words .entry)) (now (floats .entry)) (now (counters .entry))) (now (mask .entry)) ⌝ }
     ensures floats { λ r. ⌜ now (floats .exit) ≡ floatsAfterDrawing r (now (floats .entry)) ⌝ }
     ensures counters { λ r. ⌜ now (counters .exit) ≡ countersAfterDrawing r (now (counters .entry)) ⌝ }
-    ensures number { λ r. ⌜ DrawNumber (drawing size (now (words .entry)) (now (floats .entry)) (now (counters .entry))) (lent (now (mask .entry))) (outcomeNumber r) ⌝ }
+    ensures number { λ r. ⌜ DrawNumber (drawing («mask_record» .size) (now (words .entry)) (now (floats .entry)) (now (counters .entry))) (lent (now (mask .entry))) (outcomeNumber r) ⌝ }
 {
+    let size = mask_record.size;
     if size.is_too_large() {
         return Outcome::Refused(Fault::MaskTooLarge);
     }
@@ -106,4 +109,35 @@ pub fn intersect(
     let cells = size.width * size.height;
     laying::lay(&mut mask[..cells], size, other, other_size, offset);
     Outcome::Done
+}
+
+// 3 for either mask, then 16 for either, own mask before the other.
+fn corners_check(own: MaskRecord, other: MaskRecord) -> Check
+    ensures { λ r. ⌜ r ≡ cornersCheck (placed own other) ⌝ }
+{
+    if own.size.is_too_large() || other.size.is_too_large() {
+        return Check::Refused(Fault::MaskTooLarge);
+    }
+    if own.corner.is_out_of_range() || other.corner.is_out_of_range() {
+        return Check::Refused(Fault::CornerOutOfRange);
+    }
+    Check::Pass
+}
+
+// Lays the other mask on a mask by where their corners lie on the sheet.
+pub fn intersect_placed(
+    mask: &mut [u8],
+    mask_record: MaskRecord,
+    other: &[u8],
+    other_record: MaskRecord,
+) -> Outcome
+    ensures answer { λ r. ⌜ r ≡ layPlacedAnswer (placed «mask_record» «other_record») (lent (now (mask .entry))) (length (now (other .entry))) ⌝ }
+    ensures cells { λ r. ⌜ now (mask .exit) ≡ maskAfterLaying r (byOffset (placed «mask_record» «other_record»)) (now (mask .entry)) (now (other .entry)) ⌝ }
+    ensures number { λ r. ⌜ LayPlacedNumber (placed «mask_record» «other_record») (lent (now (mask .entry))) (length (now (other .entry))) (outcomeNumber r) ⌝ }
+{
+    if let Check::Refused(fault) = corners_check(mask_record, other_record) {
+        return Outcome::Refused(fault);
+    }
+    let offset = Offset::between(mask_record.corner, other_record.corner);
+    intersect(mask, mask_record.size, other, other_record.size, offset)
 }

@@ -1,6 +1,8 @@
 // The calls on mask buffers.
 use buffers::AfterCall;
 use buffers::MOST_BYTES;
+use cells::Corner;
+use cells::MaskRecord;
 use cells::Size;
 use fields::Field;
 use fields::MOST_LINE;
@@ -29,7 +31,7 @@ fn at_most(n: usize, most: usize) -> usize {
 // Draws into the parts that are lent, and answers.
 fn draw_lent(
     mask: &mut [u8],
-    size: Size,
+    mask_record: MaskRecord,
     words: &[i32],
     floats: &mut [f32],
     counters: &mut [u64],
@@ -53,7 +55,7 @@ fn draw_lent(
     }
     answers::outcome(mask::rasterize_into(
         &mut mask[..cells],
-        size,
+        mask_record,
         &words[..count],
         &mut floats[..lent_floats],
         &mut counters[..lent_counters],
@@ -64,33 +66,70 @@ fn draw_lent(
 // Draws over scratch that holds rubbish first.
 fn draw_words(
     mask: &mut [u8; MOST_BYTES],
-    size: Size,
+    mask_record: MaskRecord,
     words: &[i32; MOST_WORDS],
     lent: Lent,
 ) -> Problem {
     let mut floats = [0.5f32; MOST_SCRATCH_FLOATS];
     let mut counters = [7u64; MOST_SCRATCH_COUNTERS];
-    draw_lent(mask, size, words, &mut floats, &mut counters, lent)
+    draw_lent(mask, mask_record, words, &mut floats, &mut counters, lent)
 }
 
+// A mask's record, whether there is one, and the place behind it.
+struct RecordField {
+    value: MaskRecord,
+    good: bool,
+    at: usize,
+}
+
+// A size, of a mask that stands at (0, 0).
+fn size_at(line: &[u8; MOST_LINE], at: usize) -> RecordField {
+    let width = fields::size_at(line, at);
+    let height = fields::size_at(line, width.at);
+    RecordField {
+        value: MaskRecord {
+            size: Size {
+                width: width.value,
+                height: height.value,
+            },
+            corner: Corner { x: 0, y: 0 },
+        },
+        good: width.good && height.good,
+        at: height.at,
+    }
+}
+
+// A size and a corner.
+fn record_at(line: &[u8; MOST_LINE], at: usize) -> RecordField {
+    let size = size_at(line, at);
+    let x = fields::word_at(line, size.at);
+    let y = fields::word_at(line, x.at);
+    RecordField {
+        value: MaskRecord {
+            size: size.value.size,
+            corner: Corner {
+                x: x.value,
+                y: y.value,
+            },
+        },
+        good: size.good && x.good && y.good,
+        at: y.at,
+    }
+}
+
+// Draws into a mask of this record, with the fields that stand behind it.
 fn draw(
     line: &[u8; MOST_LINE],
-    at: usize,
+    r: RecordField,
     buffer: &mut [u8; MOST_BYTES],
     length: usize,
 ) -> Problem {
     let mut words = [0i32; MOST_WORDS];
-    let width = fields::size_at(line, at);
-    let height = fields::size_at(line, width.at);
-    let floats = fields::size_at(line, height.at);
+    let floats = fields::size_at(line, r.at);
     let counters = fields::size_at(line, floats.at);
-    if !width.good || !height.good || !floats.good || !counters.good {
+    if !r.good || !floats.good || !counters.good {
         return Problem::NotANumber;
     }
-    let size = Size {
-        width: width.value,
-        height: height.value,
-    };
     let list = fields::words(line, counters.at, &mut words);
     let problem = list.problem;
     let Problem::Nothing = problem else {
@@ -102,7 +141,7 @@ fn draw(
         floats: at_most(floats.value, MOST_SCRATCH_FLOATS),
         counters: at_most(counters.value, MOST_SCRATCH_COUNTERS),
     };
-    draw_words(buffer, size, &words, lent)
+    draw_words(buffer, r.value, &words, lent)
 }
 
 // Lays what is lent of a buffer on what is lent of another, and answers.
@@ -131,7 +170,31 @@ fn lay_lent(
     Problem::Nothing
 }
 
-// Lays the next mask on the running one.
+// The same by corners.
+fn lay_placed_lent(
+    mask: &mut [u8],
+    mask_record: MaskRecord,
+    other: &[u8],
+    other_record: MaskRecord,
+    lent: usize,
+    other_lent: usize,
+) -> Problem {
+    if lent > mask.len() {
+        return Problem::BufferTooLong;
+    }
+    if other_lent > other.len() {
+        return Problem::BufferTooLong;
+    }
+    answers::outcome(mask::intersect_placed(
+        &mut mask[..lent],
+        mask_record,
+        &other[..other_lent],
+        other_record,
+    ));
+    Problem::Nothing
+}
+
+// Lays the next mask on the running one, by an offset.
 pub fn lay(
     line: &[u8; MOST_LINE],
     at: usize,
@@ -140,34 +203,49 @@ pub fn lay(
     next: &[u8; MOST_BYTES],
     next_length: usize,
 ) -> Problem {
-    let width = fields::size_at(line, at);
-    let height = fields::size_at(line, width.at);
-    let other_width = fields::size_at(line, height.at);
-    let other_height = fields::size_at(line, other_width.at);
-    let x = fields::word_at(line, other_height.at);
+    let own = size_at(line, at);
+    let other = size_at(line, own.at);
+    let x = fields::word_at(line, other.at);
     let y = fields::word_at(line, x.at);
-    if !width.good || !height.good || !other_width.good || !other_height.good {
-        return Problem::NotANumber;
-    }
-    if !x.good || !y.good {
+    if !own.good || !other.good || !x.good || !y.good {
         return Problem::NotANumber;
     }
     let Problem::Nothing = fields::at_end(line, y.at) else {
         return Problem::FieldTooMany;
     };
-    let size = Size {
-        width: width.value,
-        height: height.value,
-    };
-    let other_size = Size {
-        width: other_width.value,
-        height: other_height.value,
-    };
     let offset = Offset {
         x: x.value,
         y: y.value,
     };
-    lay_lent(run, size, next, other_size, offset, run_length, next_length)
+    lay_lent(
+        run,
+        own.value.size,
+        next,
+        other.value.size,
+        offset,
+        run_length,
+        next_length,
+    )
+}
+
+// Lays the next mask on the running one, by corners.
+pub fn lay_at(
+    line: &[u8; MOST_LINE],
+    at: usize,
+    run: &mut [u8; MOST_BYTES],
+    run_length: usize,
+    next: &[u8; MOST_BYTES],
+    next_length: usize,
+) -> Problem {
+    let own = record_at(line, at);
+    let other = record_at(line, own.at);
+    if !own.good || !other.good {
+        return Problem::NotANumber;
+    }
+    let Problem::Nothing = fields::at_end(line, other.at) else {
+        return Problem::FieldTooMany;
+    };
+    lay_placed_lent(run, own.value, next, other.value, run_length, next_length)
 }
 
 // Answers the call that has a name, with the fields that stand behind its buffer's.
@@ -196,7 +274,10 @@ pub fn answer(
     if fields::is(line, name, b"read_pgm") {
         return pgm_calls::read_pgm(line, at, buffer, length);
     }
-    buffers::left(length, draw(line, at, buffer, length))
+    if fields::is(line, name, b"draw_at") {
+        return buffers::left(length, draw(line, record_at(line, at), buffer, length));
+    }
+    buffers::left(length, draw(line, size_at(line, at), buffer, length))
 }
 
 // Whether a name is that of a call on a buffer.
@@ -208,4 +289,5 @@ pub fn has(line: &[u8; MOST_LINE], name: Field) -> bool {
         || fields::is(line, name, b"write_pgm")
         || fields::is(line, name, b"read_pgm")
         || fields::is(line, name, b"draw")
+        || fields::is(line, name, b"draw_at")
 }

@@ -13,12 +13,14 @@ use Rattle.fault.specs.declared.Fault.the-variants.{MaskTooLarge, BufferTooShor
 use Rattle.fault.specs.declared.Check.the-variants as check
 use Rattle.fault.proofs.Decided.{Decided}
 use Rattle.cells.specs.declared.Size.{Size}
+use Rattle.cells.specs.declared.MaskRecord.{MaskRecord}
+use Rattle.cells.specs.Corner.{sheetOrigin}
 use Rattle.cells.specs.Cells.{cellsOf, tooLarge}
 use Rattle.cells.proofs.Sizes.{size-allowed, size-large, allowed-small, large-test}
 use Rattle.pgm_reader.specs.Reading.{Read, ok, bad, Head, readHeader}
 use Rattle.pgm_reader.specs.Laws.{HeaderIs}
 use Rattle.pgm_reader.proofs.Laws.{header-exactly-when}
-use Rattle.pgm.specs.Calls.{readCheck, readCall, rasterIn, maskAfterReading}
+use Rattle.pgm.specs.Calls.{readCheck, recordRead, readCall, rasterIn, maskAfterReading}
 use Rattle.pgm.specs.Laws.{Taken, FirstReadCause, no-header, wrong-depth, too-large, wrong-raster, mask-short, ReadExactlyWhen}
 use Rattle.pgm.specs.declared.ReadAnswer.the-variants as read
 
@@ -28,10 +30,10 @@ module _ {file : List ℕ} {size : Size} {raster : List ℕ} (t : Taken file siz
   is : readHeader file ≡ ok (record { size = size; depth = 255 }) raster
   is = header-exactly-when .always file size 255 raster (t .header)
 
-  pub done : (mask : ℕ) → cellsOf size ≤ mask → readCall file mask ≡ read.Read size
+  pub done : (mask : ℕ) → cellsOf size ≤ mask → readCall file mask ≡ read.Read (recordRead size)
   done mask h = rw (is, allowed-small size (t .size-allowed), eq-eqb (length raster) (cellsOf size) (t .exactly), le-ltb mask (cellsOf size) h) refl
 
-  pub cells-read : (mask : List ℕ) → maskAfterReading (read.Read size) file mask ≡ raster ++ drop (cellsOf size) mask
+  pub cells-read : (mask : List ℕ) → maskAfterReading (read.Read (recordRead size)) file mask ≡ raster ++ drop (cellsOf size) mask
   cells-read mask = ap (λ (r : Read Head). rasterIn r ++ drop (cellsOf size) mask) is
 
 -- ---- and one that is refused
@@ -113,25 +115,28 @@ raster-fits h raster mask = go (eqb (h .depth) 255) (tooLarge (h .size)) (eqb ra
 
 -- ---- the answer
 
-not-both : (size : Size) (f : Fault) → read.Read size ≡ read.Refused f → ⊥
-not-both size f e = let z : _≡_ {A = ℕ} 0 1 = cc in omega arith
+not-both : (r : MaskRecord) (f : Fault) → read.Read r ≡ read.Refused f → ⊥
+not-both r f e = let z : _≡_ {A = ℕ} 0 1 = cc in omega arith
 
-done-only : (file : List ℕ) (size : Size) (mask : ℕ) → readCall file mask ≡ read.Read size
-    → (raster : List ℕ) × (Taken file size raster × (cellsOf size ≤ mask))
-done-only file size mask e = go (decided file mask)
+done-only : (file : List ℕ) (r : MaskRecord) (mask : ℕ) → readCall file mask ≡ read.Read r
+    → (raster : List ℕ) × (Taken file (r .size) raster × ((cellsOf (r .size) ≤ mask) × (r .corner ≡ sheetOrigin)))
+done-only file r mask e = go (decided file mask)
   where
-    go : Decided (CanRead file mask) (FirstReadCause file mask) → (raster : List ℕ) × (Taken file size raster × (cellsOf size ≤ mask))
+    Shown : MaskRecord → List ℕ → Type 0
+    Shown x raster = Taken file (x .size) raster × ((cellsOf (x .size) ≤ mask) × (x .corner ≡ sheetOrigin))
+
+    go : Decided (CanRead file mask) (FirstReadCause file mask) → (raster : List ℕ) × Shown r raster
     go (inl c) =
         let d = done (c .taken) mask (c .room) in
-        let s : c .size ≡ size = cc in
-        (c .raster, (subst (λ (x : Size). Taken file x (c .raster)) s (c .taken), subst (λ (x : Size). cellsOf x ≤ mask) s (c .room)))
-    go (inr (f, c)) = absurd (not-both size f (sym e ∙ always file mask f c))
+        let s : recordRead (c .size) ≡ r = cc in
+        (c .raster, subst (λ (x : MaskRecord). Shown x (c .raster)) s (c .taken, (c .room, refl)))
+    go (inr (f, c)) = absurd (not-both r f (sym e ∙ always file mask f c))
 
 only : (file : List ℕ) (mask : ℕ) (f : Fault) → readCall file mask ≡ read.Refused f → FirstReadCause file mask f
 only file mask f e = go (decided file mask)
   where
     go : Decided (CanRead file mask) (FirstReadCause file mask) → FirstReadCause file mask f
-    go (inl c) = absurd (not-both (c .size) f (sym (done (c .taken) mask (c .room)) ∙ e))
+    go (inl c) = absurd (not-both (recordRead (c .size)) f (sym (done (c .taken) mask (c .room)) ∙ e))
     go (inr (g, c)) =
         let a = always file mask g c in
         let s : g ≡ f = cc in

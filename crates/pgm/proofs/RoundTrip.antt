@@ -11,7 +11,7 @@ use Rattle.cells.specs.Cells.{cellsOf, SizeAllowed}
 use Rattle.pgm_reader.specs.Reading.{isSpace, isDigit, valueOf}
 use Rattle.pgm_reader.specs.Laws.{All, Spaces, Digits, FieldIs, HeaderIs}
 use Rattle.pgm_writer.specs.Text.{HasCells, blank, closing, decimal, headerText, pgmOf}
-use Rattle.pgm.specs.Calls.{readCall, maskAfterReading}
+use Rattle.pgm.specs.Calls.{recordRead, readCall, maskAfterReading}
 use Rattle.pgm.specs.Laws.{Taken, RoundTrip}
 use Rattle.pgm.specs.declared.ReadAnswer.the-variants as read
 use Rattle.pgm.proofs.Writing.{written-exactly-when}
@@ -92,5 +92,5 @@ round-trip size mask file other n e fits =
     let front : take n (pgmOf size cells ++ drop n file) ≡ pgmOf size cells = take-at (pgmOf size cells) (drop n file) n k in
     let taken = written-taken size cells (can .has-cells) (can .size-allowed) l in (
       ap (λ (x : List ℕ). readCall x (length other)) front ∙ done taken (length other) fits,
-      ap (λ (x : List ℕ). maskAfterReading (read.Read size) x other) front ∙ cells-read taken other,
+      ap (λ (x : List ℕ). maskAfterReading (read.Read (recordRead size)) x other) front ∙ cells-read taken other,
     )

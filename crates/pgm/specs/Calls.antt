@@ -1,5 +1,5 @@
 -- The calls on PGM files, outright: what each answers, and all that was lent to it afterwards (document 02, change 4,
--- 'Masks as PGM files'). Definitions only.
+-- 'Masks as PGM files', and change 8). Definitions only.
 use Prim.Native.Nat.{ℕ, _+_}
 use mathlib.Core.Bool.{Bool, cond, not, _||_}
 use mathlib.Core.List.{List, [], _++_}
@@ -10,7 +10,9 @@ use Rattle.fault.specs.declared.Check.{Check}
 use Rattle.fault.specs.declared.Check.the-variants as check
 use Rattle.fault.specs.Check.{answerUnless}
 use Rattle.cells.specs.declared.Size.{Size}
+use Rattle.cells.specs.declared.MaskRecord.{MaskRecord}
 use Rattle.cells.specs.Cells.{cellsOf, tooLarge}
+use Rattle.cells.specs.Corner.{sheetOrigin}
 use Rattle.pgm_reader.specs.Reading.{Read, ok, bad, Head, readHeader}
 use Rattle.pgm_writer.specs.Text.{headerText, pgmOf}
 use Rattle.pgm.specs.declared.WriteAnswer.{WriteAnswer}
@@ -54,8 +56,12 @@ readCheck h raster mask =
     (cond (not (eqb raster (cellsOf (h .size)))) (check.Refused WrongRaster)
     (cond (ltb mask (cellsOf (h .size))) (check.Refused BufferTooShort) check.Pass)))
 
+-- 'A mask read from PGM stands at (0, 0).'
+abbrev pub recordRead : Size → MaskRecord
+recordRead size = record { size = size; corner = sheetOrigin }
+
 abbrev pub rasterCall : Head → ℕ → ℕ → ReadAnswer
-rasterCall h raster mask = answerUnless read.Refused (readCheck h raster mask) (read.Read (h .size))
+rasterCall h raster mask = answerUnless read.Refused (readCheck h raster mask) (read.Read (recordRead (h .size)))
 
 -- number 13 where there is no header
 abbrev pub headCall : Read Head → ℕ → ReadAnswer
@@ -72,7 +78,7 @@ rasterIn bad = []
 
 -- the mask afterwards: the raster, then what was past it. Turned away, it is left as it was
 abbrev pub rasterOver : ReadAnswer → List ℕ → List ℕ → List ℕ
-rasterOver (read.Read size) raster mask = raster ++ drop (cellsOf size) mask
+rasterOver (read.Read r) raster mask = raster ++ drop (cellsOf (r .size)) mask
 rasterOver (read.Refused f) raster mask = mask
 
 abbrev pub maskAfterReading : ReadAnswer → List ℕ → List ℕ → List ℕ

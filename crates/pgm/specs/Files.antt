@@ -3,6 +3,7 @@
 use Prim.Native.Nat.{ℕ}
 use mathlib.Core.Path.{_≡_}
 use mathlib.Core.List.{List, [], _∷_, _++_}
+use lib.IntN.{pos}
 use lib.ListN.{length}
 use Rattle.fault.specs.declared.Fault.the-variants.{MaskTooLarge, BufferTooShort, NotPgm, WrongDepth, WrongRaster}
 use Rattle.cells.specs.declared.Size.{Size}
@@ -66,9 +67,13 @@ Reads file mask answer after = (readCall file (length mask) ≡ answer) × (mask
 abbrev pub by : ℕ → ℕ → Size
 by width height = record { width = width; height = height }
 
--- read as 1 by 1, of this cell
+-- read as 1 by 1, 'stands at (0, 0)'
+abbrev pub oneByOne : ReadAnswer
+oneByOne = read.Read (record { size = by 1 1; corner = record { x = pos 0; y = pos 0 } })
+
+-- of this cell
 abbrev pub Cell : List ℕ → ℕ → Type 0
-Cell file byte = Reads file m9 (read.Read (by 1 1)) (byte ∷ [])
+Cell file byte = Reads file m9 oneByOne (byte ∷ [])
 
 -- refused with 13
 abbrev pub Not : List ℕ → Type 0
@@ -88,7 +93,7 @@ pub record Files : Type 0 where
   pub any-whitespace : Cell (mark ++ (32 ∷ 9 ∷ 13 ∷ 10 ∷ []) ++ d1 ++ lf ++ lf ++ d1 ++ sp ++ d255 ++ sp ++ c7) 7
   pub cell-of-line-feed : Cell (small ++ d255 ++ lf ++ lf) 10
   pub cell-of-number-sign : Cell (small ++ d255 ++ lf ++ (35 ∷ [])) 35
-  pub past-the-cells : Reads (small ++ d255 ++ lf ++ c7) (9 ∷ 8 ∷ []) (read.Read (by 1 1)) (7 ∷ 8 ∷ [])
+  pub past-the-cells : Reads (small ++ d255 ++ lf ++ c7) (9 ∷ 8 ∷ []) oneByOne (7 ∷ 8 ∷ [])
   -- 13
   pub nothing : Not []
   pub one-byte : Not (80 ∷ [])

@@ -1,4 +1,4 @@
--- What document 02, change 4, says of PGM files as a whole, stated of the definitions in Calls.antt. Proved in
+-- What document 02, changes 4 and 8, says of PGM files as a whole, stated of the definitions in Calls.antt. Proved in
 -- proofs/Writing.antt, Reading.antt, Decimal.antt and RoundTrip.antt.
 use mathlib.Core.Path.{_≡_}
 use mathlib.Core.Logic.{_⊎_}
@@ -9,11 +9,13 @@ use Rattle.fault.specs.declared.Fault.{Fault}
 use Rattle.fault.specs.declared.Fault.the-variants.{MaskTooLarge, BufferTooShort, NotPgm, WrongDepth, WrongRaster}
 use Rattle.fault.specs.Check.{ForItsFirstCause}
 use Rattle.cells.specs.declared.Size.{Size}
+use Rattle.cells.specs.declared.MaskRecord.{MaskRecord}
 use Rattle.cells.specs.Cells.{cellsOf, TooLarge, SizeAllowed}
+use Rattle.cells.specs.Corner.{sheetOrigin}
 use Rattle.pgm_reader.specs.Reading.{valueOf}
 use Rattle.pgm_reader.specs.Laws.{Digits, HeaderIs}
 use Rattle.pgm_writer.specs.Text.{HasCells, decimal}
-use Rattle.pgm.specs.Calls.{fileLength, writeCall, fileAfter, readCall, maskAfterReading}
+use Rattle.pgm.specs.Calls.{fileLength, writeCall, fileAfter, recordRead, readCall, maskAfterReading}
 use Rattle.pgm.specs.declared.WriteAnswer.the-variants as write
 use Rattle.pgm.specs.declared.ReadAnswer.the-variants as read
 
@@ -69,14 +71,15 @@ pub data FirstReadCause (file : List ℕ) (mask : ℕ) : Fault → Type 0 where
       → FirstReadCause file mask WrongRaster
   mask-short : (size : Size) (raster : List ℕ) → Taken file size raster → mask < cellsOf size → FirstReadCause file mask BufferTooShort
 
--- a file is read exactly when it is taken and the mask has room for its cells, which are then the mask's; it is refused
--- exactly for its first cause
+-- a file is read exactly when it is taken and the mask has room for its cells, which are then the mask's; 'A mask read
+-- from PGM stands at (0, 0)'; it is refused exactly for its first cause
 pub record ReadExactlyWhen : Type 0 where
-  pub done-only : (file : List ℕ) (size : Size) (mask : ℕ) → readCall file mask ≡ read.Read size
-      → (raster : List ℕ) × (Taken file size raster × (cellsOf size ≤ mask))
-  pub done-always : (file : List ℕ) (size : Size) (raster : List ℕ) (mask : ℕ) → Taken file size raster → cellsOf size ≤ mask → readCall file mask ≡ read.Read size
+  pub done-only : (file : List ℕ) (r : MaskRecord) (mask : ℕ) → readCall file mask ≡ read.Read r
+      → (raster : List ℕ) × (Taken file (r .size) raster × ((cellsOf (r .size) ≤ mask) × (r .corner ≡ sheetOrigin)))
+  pub done-always : (file : List ℕ) (size : Size) (raster : List ℕ) (mask : ℕ) → Taken file size raster → cellsOf size ≤ mask
+      → readCall file mask ≡ read.Read (recordRead size)
   pub cells : (file : List ℕ) (size : Size) (raster mask : List ℕ) → Taken file size raster
-      → maskAfterReading (read.Read size) file mask ≡ raster ++ drop (cellsOf size) mask
+      → maskAfterReading (read.Read (recordRead size)) file mask ≡ raster ++ drop (cellsOf size) mask
   pub refused : (file : List ℕ) (mask : ℕ) → ForItsFirstCause read.Refused (readCall file mask) (FirstReadCause file mask)
 
 -- ---- both
@@ -89,5 +92,5 @@ written size mask file n = take n (fileAfter (write.Written n) size mask file)
 abbrev pub RoundTrip : Type 0
 RoundTrip =
     (size : Size) (mask file other : List ℕ) (n : ℕ) → writeCall size (length mask) (length file) ≡ write.Written n → cellsOf size ≤ length other
-    → (readCall (written size mask file n) (length other) ≡ read.Read size)
-    × (maskAfterReading (read.Read size) (written size mask file n) other ≡ take (cellsOf size) mask ++ drop (cellsOf size) other)
+    → (readCall (written size mask file n) (length other) ≡ read.Read (recordRead size))
+    × (maskAfterReading (read.Read (recordRead size)) (written size mask file n) other ≡ take (cellsOf size) mask ++ drop (cellsOf size) other)

@@ -1,4 +1,6 @@
-// Masks as raw Netpbm PGM files, written and read: document 02, change 4.
+// Masks as raw Netpbm PGM files, written and read: document 02, changes 4 and 8.
+use cells::Corner;
+use cells::MaskRecord;
 use cells::Size;
 use fault::Check;
 use fault::Fault;
@@ -16,9 +18,9 @@ pub enum WriteAnswer {
     Refused(Fault),
 }
 
-// What reading answers: the mask's size, or why it is turned away.
+// What reading answers: the mask's record, or why it is turned away.
 pub enum ReadAnswer {
-    Read(Size),
+    Read(MaskRecord),
     Refused(Fault),
 }
 
@@ -81,7 +83,7 @@ fn read_check(size: Size, depth: usize, raster: usize, mask: usize) -> Check
     Check::Pass
 }
 
-// Reads the raster behind a header into a mask.
+// Reads the raster behind a header into a mask. A file says nothing of the sheet: the mask stands at (0, 0).
 fn read_raster(raster: &[u8], size: Size, depth: usize, mask: &mut [u8]) -> ReadAnswer
     ensures { λ r. ⌜ r ≡ rasterCall (record { size = size; depth = depth }) (length (now (raster .entry))) (length (now (mask .entry))) ⌝ }
     ensures { λ r. ⌜ now (mask .exit) ≡ rasterOver r (now (raster .entry)) (now (mask .entry)) ⌝ }
@@ -90,7 +92,10 @@ fn read_raster(raster: &[u8], size: Size, depth: usize, mask: &mut [u8]) -> Read
         return ReadAnswer::Refused(fault);
     }
     cells::put_bytes(mask, 0, raster);
-    ReadAnswer::Read(size)
+    ReadAnswer::Read(MaskRecord {
+        size,
+        corner: Corner { x: 0, y: 0 },
+    })
 }
 
 // Reads a PGM file into a mask.

@@ -9,13 +9,14 @@ use native.Mathlib.Omega.{arith}
 use Rattle.fault.specs.declared.Fault.{Fault}
 use Rattle.fault.specs.declared.Fault.the-variants.{BufferTooShort}
 use Rattle.cells.specs.declared.Size.{Size}
+use Rattle.cells.specs.declared.MaskRecord.{MaskRecord}
 use Rattle.cells.specs.Cells.{cellsOf}
 use Rattle.pgm.specs.declared.ReadAnswer.{ReadAnswer}
 use Rattle.pgm.specs.declared.ReadAnswer.the-variants as read
 use Rattle.pgm.specs.Calls.{readCall}
 use Rattle.pgm.specs.Laws.{Taken, FirstReadCause, no-header, wrong-depth, too-large, wrong-raster, mask-short}
 use Rattle.pgm.proofs.Reading.{read-exactly-when}
-use Rattle.pgm_exports.specs.Calls.{sizeShort}
+use Rattle.pgm_exports.specs.Calls.{recordShort}
 
 -- a file that is taken has cells
 some : {file raster : List ℕ} {size : Size} → Taken file size raster → 0 < cellsOf size
@@ -29,18 +30,18 @@ still (too-large size raster h l) = too-large size raster h l
 still (wrong-raster size raster h s n) = wrong-raster size raster h s n
 still (mask-short size raster t l) = mask-short size raster t (some t)
 
-pub unlent : (file : List ℕ) (mask : ℕ) → readCall file 0 ≡ sizeShort true (readCall file mask)
+pub unlent : (file : List ℕ) (mask : ℕ) → readCall file 0 ≡ recordShort true (readCall file mask)
 unlent file mask = go (readCall file mask) refl
   where
-    go : (r : ReadAnswer) → readCall file mask ≡ r → readCall file 0 ≡ sizeShort true r
-    go (read.Read size) e =
-        let d = read-exactly-when .done-only file size mask e in
-        read-exactly-when .refused file 0 .always BufferTooShort (mask-short size (d .0) (d .1 .0) (some (d .1 .0)))
+    go : (r : ReadAnswer) → readCall file mask ≡ r → readCall file 0 ≡ recordShort true r
+    go (read.Read r) e =
+        let d = read-exactly-when .done-only file r mask e in
+        read-exactly-when .refused file 0 .always BufferTooShort (mask-short (r .size) (d .0) (d .1 .0) (some (d .1 .0)))
     go (read.Refused f) e = read-exactly-when .refused file 0 .always f (still (read-exactly-when .refused file mask .only f e))
 
-pub not-read : (file : List ℕ) (size : Size) → readCall file 0 ≡ read.Read size → ⊥
-not-read file size e =
-    let d = read-exactly-when .done-only file size 0 e in
-    let l = d .1 .1 in
+pub not-read : (file : List ℕ) (r : MaskRecord) → readCall file 0 ≡ read.Read r → ⊥
+not-read file r e =
+    let d = read-exactly-when .done-only file r 0 e in
+    let l = d .1 .1 .0 in
     let s = some (d .1 .0) in
     omega arith

@@ -1,7 +1,7 @@
--- The calls on PGM files, on lent slices, outright: what each answers, from what is lent to it. Number and size, as they
+-- The calls on PGM files, on lent slices, outright: what each answers, from what is lent to it. Number and record, as they
 -- are handed over: boundary/specs/Answers.antt. Definitions only.
 use Prim.Native.Nat.{ℕ}
-use mathlib.Core.Bool.{Bool, true, false}
+use mathlib.Core.Bool.{Bool, true, false, _||_}
 use mathlib.Core.List.{List}
 use lib.Dec.{ltb}
 use lib.ListN.{length}
@@ -24,15 +24,14 @@ writeLent width height mask file = writeCall (sizeOf width height) (length mask)
 abbrev pub fileWritten : ℕ → ℕ → List ℕ → List ℕ → List ℕ
 fileWritten width height mask file = fileAfter (writeLent width height mask file) (sizeOf width height) mask file
 
--- ---- reading: the size is written to lent numbers
+-- ---- reading: the mask's record is written to lent numbers, its size to some and its corner to others
 
--- number 4 where fewer than two are lent for it, 'the order is 13 field by field, 14, 3, 15, 4': where nothing else is
--- refused
-abbrev pub sizeShort : Bool → ReadAnswer → ReadAnswer
-sizeShort true (read.Read size) = read.Refused BufferTooShort
-sizeShort true (read.Refused f) = read.Refused f
-sizeShort false answer = answer
+-- number 4 where too few are lent for it, 'the order is 13 field by field, 14, 3, 15, 4': where nothing else is refused
+abbrev pub recordShort : Bool → ReadAnswer → ReadAnswer
+recordShort true (read.Read r) = read.Refused BufferTooShort
+recordShort true (read.Refused f) = read.Refused f
+recordShort false answer = answer
 
--- for so many numbers
-abbrev pub readLent : List ℕ → List ℕ → ℕ → ReadAnswer
-readLent file mask size = sizeShort (ltb size 2) (readCall file (length mask))
+-- for so many numbers, fewer than two for either
+abbrev pub readLent : List ℕ → List ℕ → ℕ → ℕ → ReadAnswer
+readLent file mask size corner = recordShort (ltb size 2 || ltb corner 2) (readCall file (length mask))

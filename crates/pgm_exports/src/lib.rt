@@ -1,16 +1,18 @@
-// The calls on PGM files, on lent slices: numbers in, a number back, a mask's size written to what is lent
+// The calls on PGM files, on lent slices: numbers in, a number back, a mask's record written to what is lent
 // for it. Crate beamnettle exports each under its name; include/beamnettle.h says what each does in words.
 // Each contract gives the number and all that is lent afterwards outright.
 use cells::Size;
 use pgm::ReadAnswer;
 ghost use mathlib.Core.Path.{_≡_};
 ghost use lib.ListN.{length};
-ghost use Rattle.boundary.specs.Answers.{writeNumber, readNumber, sizeAfter};
+ghost use Rattle.boundary.specs.Answers.{writeNumber, readNumber, sizeAfter, cornerAfter};
 ghost use Rattle.pgm.specs.Calls.{maskAfterReading};
 ghost use Rattle.pgm_exports.specs.Calls.{writeLent, fileWritten, readLent};
 
-// How many numbers a size takes.
+// How many numbers a size takes, and a corner.
 const SIZE: usize = 2;
+
+const CORNER: usize = 2;
 
 const TOO_SHORT: u8 = 4;
 
@@ -21,9 +23,9 @@ pub fn write_pgm(mask: &[u8], width: usize, height: usize, file: &mut [u8]) -> u
     boundary::write_number(pgm::write_pgm(mask, Size { width, height }, file))
 }
 
-// Refuses a file where no size can be written: no mask is lent, so that none is changed.
+// Refuses a file where no record can be written: no mask is lent, so that none is changed.
 fn refuse(file: &[u8], mask: &mut [u8]) -> u8
-    ensures { λ r. ⌜ r ≡ readNumber (readLent (now (file .entry)) (now (mask .entry)) 0) ⌝ }
+    ensures { λ r. ⌜ r ≡ readNumber (readLent (now (file .entry)) (now (mask .entry)) 0 0) ⌝ }
     ensures { λ _. ⌜ now (mask .exit) ≡ now (mask .entry) ⌝ }
 {
     match pgm::read_pgm(file, &mut mask[0..0]) {
@@ -32,13 +34,17 @@ fn refuse(file: &[u8], mask: &mut [u8]) -> u8
     }
 }
 
-pub fn read_pgm(file: &[u8], mask: &mut [u8], size: &mut [usize]) -> u8
-    ensures number { λ r. ⌜ r ≡ readNumber (readLent (now (file .entry)) (now (mask .entry)) (length (now (size .entry)))) ⌝ }
-    ensures cells { λ _. ⌜ now (mask .exit) ≡ maskAfterReading (readLent (now (file .entry)) (now (mask .entry)) (length (now (size .entry)))) (now (file .entry)) (now (mask .entry)) ⌝ }
-    ensures size { λ _. ⌜ now (size .exit) ≡ sizeAfter (readLent (now (file .entry)) (now (mask .entry)) (length (now (size .entry)))) (now (size .entry)) ⌝ }
+pub fn read_pgm(file: &[u8], mask: &mut [u8], size: &mut [usize], corner: &mut [i32]) -> u8
+    ensures number { λ r. ⌜ r ≡ readNumber (readLent (now (file .entry)) (now (mask .entry)) (length (now (size .entry))) (length (now (corner .entry)))) ⌝ }
+    ensures cells { λ _. ⌜ now (mask .exit)
+        ≡ maskAfterReading (readLent (now (file .entry)) (now (mask .entry)) (length (now (size .entry))) (length (now (corner .entry)))) (now (file .entry)) (now (mask .entry)) ⌝ }
+    ensures size { λ _. ⌜ now (size .exit)
+        ≡ sizeAfter (readLent (now (file .entry)) (now (mask .entry)) (length (now (size .entry))) (length (now (corner .entry)))) (now (size .entry)) ⌝ }
+    ensures corner { λ _. ⌜ now (corner .exit)
+        ≡ cornerAfter (readLent (now (file .entry)) (now (mask .entry)) (length (now (size .entry))) (length (now (corner .entry)))) (now (corner .entry)) ⌝ }
 {
-    if size.len() < SIZE {
+    if size.len() < SIZE || corner.len() < CORNER {
         return refuse(file, mask);
     }
-    boundary::hand_size(pgm::read_pgm(file, mask), size)
+    boundary::hand_record(pgm::read_pgm(file, mask), size, corner)
 }

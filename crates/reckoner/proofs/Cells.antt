@@ -15,6 +15,7 @@ use Rattle.fraction.proofs.Linear.{lit}
 use Rattle.fraction.proofs.Order.{refl≤}
 use Rattle.word_list.specs.Words.{groupsOf}
 use Rattle.winding.proofs.Belief.{drawn-share-at-most-one, drawn-share-nonneg}
+use Rattle.cells.specs.declared.Corner.{Corner}
 use Rattle.cells.specs.Cells.{cellsOf, byteAt}
 use Rattle.cells.proofs.Places.{front-byte, whole-length}
 use Rattle.coverage.specs.Drawing.{drawingRow, drawingOf}
@@ -24,9 +25,8 @@ use Rattle.laying.specs.Laying.{Laying, laying, laidByte, metAt, laidCell, layi
 use Rattle.laying.proofs.Laid.{laying-length, laying-byte}
 use Rattle.mask.specs.declared.Outcome.{Outcome}
 use Rattle.mask.specs.declared.Outcome.the-variants.{Done, Refused}
-use Rattle.mask.specs.Calls.{lent, Drawing, drawAnswer, maskAfterDrawing, layAnswer, maskAfterLaying}
+use Rattle.mask.specs.Calls.{lent, Drawing, drawAnswer, maskAfterDrawing, maskAfterLaying}
 use Rattle.mask.proofs.Causes.{done-exactly-when}
-use Rattle.mask.proofs.LayCauses.{laid-exactly-when}
 use Rattle.bound.proofs.Close.{drawn-bytes-are-close}
 use Rattle.reckoner.specs.Reckoner.{Cell, Held, Place, running, next, Two, of, put, atFirst, drawnHeld, both, alone, meets, laidHeld}
 use Rattle.reckoner.specs.Claim.{Buffers}
@@ -85,9 +85,9 @@ module _ (d : Drawing) where
       front-byte (d .size) cells (drop (cellsOf (d .size)) mask) (drawing-length (d .size) (groupsOf (d .words))) column row c r
       ∙ drawing-byte (d .size) (groupsOf (d .words)) column row c r
 
-  pub draw-held : (l k : List ℕ) → drawAnswer d (lent l) ≡ Done → drawAnswer d (lent k) ≡ Done
-      → MaskHeld (drawnHeld d) (maskAfterDrawing Done d l) (maskAfterDrawing Done d k)
-  draw-held l k e f = record {
+  pub draw-held : (corner : Corner) (l k : List ℕ) → drawAnswer d (lent l) ≡ Done → drawAnswer d (lent k) ≡ Done
+      → MaskHeld (drawnHeld corner d) (maskAfterDrawing Done d l) (maskAfterDrawing Done d k)
+  draw-held corner l k e f = record {
     room = rw (draw-length Done l e) (room l e);
     roomToo = rw (draw-length Done k f) (room k f);
     cells = λ column row c r. record {
@@ -101,10 +101,10 @@ module _ (d : Drawing) where
 
 -- ---- a laying-on
 
-pub lay-length : (l : Laying) (o : Outcome) (mask other : List ℕ) → layAnswer l (lent mask) (length other) ≡ o → length (maskAfterLaying o l mask other) ≡ length mask
-lay-length l (Refused f) mask other e = refl
-lay-length l Done mask other e =
-    whole-length (l .size) (layingOf l mask other) mask (laying-length l mask other) (laid-exactly-when .done-only l (lent mask) (length other) e .cells)
+-- by an offset or by corners: what is done has room
+pub lay-length : (l : Laying) (o : Outcome) (mask other : List ℕ) → (o ≡ Done → cellsOf (l .size) ≤ length mask) → length (maskAfterLaying o l mask other) ≡ length mask
+lay-length l (Refused f) mask other room = refl
+lay-length l Done mask other room = whole-length (l .size) (layingOf l mask other) mask (laying-length l mask other) (room refl)
 
 -- where the other mask has no cell, and where it has one
 none : {a : Cell} {u v : ℕ} → CellHeld a u v → CellHeld (alone a) 0 0

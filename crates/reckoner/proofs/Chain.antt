@@ -2,15 +2,20 @@
 -- nothing.
 use mathlib.Core.Path.{_≡_, refl, sym, ap, ap₂, _∙_, subst, subst₂}
 use mathlib.Core.List.{List, [], _∷_}
-use Prim.Native.Nat.{ℕ}
+use Prim.Native.Nat.{ℕ, _≤_}
 use lib.ListN.{length}
 use Rattle.cells.specs.declared.Size.{Size}
+use Rattle.cells.specs.Cells.{cellsOf}
 use Rattle.laying.specs.Laying.{Laying, laying}
+use Rattle.laying.specs.Placed.{Placed, placed, byOffset, offsetBetween}
 use Rattle.mask.specs.declared.Outcome.{Outcome}
 use Rattle.mask.specs.declared.Outcome.the-variants.{Done, Refused}
-use Rattle.mask.specs.Calls.{Lent, Drawing, drawAnswer, maskAfterDrawing, layAnswer, maskAfterLaying}
-use Rattle.reckoner.specs.Reckoner.{Held, Place, running, next, Two, of, put, atFirst, Call, draw, lay, answer, answers, step, reckoned, GivenSizes, Meant}
+use Rattle.mask.specs.Calls.{Lent, Drawing, drawAnswer, maskAfterDrawing, layAnswer, maskAfterLaying, layPlacedAnswer}
+use Rattle.mask.proofs.LayCauses.{laid-exactly-when}
+use Rattle.mask.proofs.PlacedCauses.{laid-placed-exactly-when}
+use Rattle.reckoner.specs.Reckoner.{Held, Place, running, next, Two, of, put, atFirst, Call, draw, lay, layPlaced, answer, answers, step, reckoned, recordOf, Given, Meant}
 use Rattle.reckoner.specs.Claim.{Buffers, HasLengths, ScratchFor, Scratches, answered, buffersAfter, allAnswered, buffersAfterAll, CallNumbers, numbers, EveryList}
+use Rattle.reckoner.proofs.LastGiven.{held-is-last-given}
 use Rattle.reckoner.proofs.Cells.{BothHeld, put-held, stay-held, held-first, draw-length, draw-held, lay-length, lay-held}
 use Rattle.reckoner.proofs.Numbers.{list-only, list-always}
 use Rattle.reckoner.proofs.Scratch.{given-is, scratch-never-matters}
@@ -29,28 +34,37 @@ put-lengths p lengths b l h e = go p h (ap (λ (n : ℕ). sized n) e ∙ h p)
 
 -- the buffers after a call with this answer
 abbrev after : Outcome → Call → Buffers → Buffers
-after o (draw p d) b = put p (maskAfterDrawing o d (of p b)) b
+after o (draw p corner d) b = put p (maskAfterDrawing o d (of p b)) b
 after o (lay l) b = put running (maskAfterLaying o l (b .atRunning) (b .atNext)) b
+after o (layPlaced q) b = put running (maskAfterLaying o (byOffset q) (b .atRunning) (b .atNext)) b
 
 module _ (lengths : Two Lent) where
   -- ---- one call
 
   one-answer : (c : Call) (b : Buffers) (s : ScratchFor c) → HasLengths lengths b → answered b c s ≡ answer lengths c
-  one-answer (draw p d) b s h = ap₂ drawAnswer (given-is s) (h p)
+  one-answer (draw p corner d) b s h = ap₂ drawAnswer (given-is s) (h p)
   one-answer (lay l) b s h = ap₂ (λ (m n : Lent). layAnswer l m (n .mask)) (h running) (h next)
+  one-answer (layPlaced q) b s h = ap₂ (λ (m n : Lent). layPlacedAnswer q m (n .mask)) (h running) (h next)
 
   one-after : (c : Call) (b : Buffers) (s : ScratchFor c) → HasLengths lengths b → buffersAfter b c s ≡ after (answer lengths c) c b
-  one-after (draw p d) b s h = ap₂ (λ (o : Outcome) (e : Drawing). put p (maskAfterDrawing o e (of p b)) b) (one-answer (draw p d) b s h) (given-is s)
+  one-after (draw p corner d) b s h = ap₂ (λ (o : Outcome) (e : Drawing). put p (maskAfterDrawing o e (of p b)) b) (one-answer (draw p corner d) b s h) (given-is s)
   one-after (lay l) b s h = ap (λ (o : Outcome). after o (lay l) b) (one-answer (lay l) b s h)
+  one-after (layPlaced q) b s h = ap (λ (o : Outcome). after o (layPlaced q) b) (one-answer (layPlaced q) b s h)
 
   one-length : (c : Call) (b : Buffers) (s : ScratchFor c) → HasLengths lengths b → HasLengths lengths (buffersAfter b c s)
   one-length c b s h = rw (one-after c b s h) (go c)
     where
+      laid : (l : Laying) (o : Outcome) → (o ≡ Done → cellsOf (l .size) ≤ length (b .atRunning))
+          → HasLengths lengths (put running (maskAfterLaying o l (b .atRunning) (b .atNext)) b)
+      laid l o room = put-lengths running lengths b (maskAfterLaying o l (b .atRunning) (b .atNext)) h (lay-length l o (b .atRunning) (b .atNext) room)
+
       go : (c : Call) → HasLengths lengths (after (answer lengths c) c b)
-      go (draw p d) = put-lengths p lengths b (maskAfterDrawing (answer lengths (draw p d)) d (of p b)) h (draw-length d (answer lengths (draw p d)) (of p b) (ap (drawAnswer d) (h p)))
-      go (lay l) =
-          put-lengths running lengths b (maskAfterLaying (answer lengths (lay l)) l (b .atRunning) (b .atNext)) h
-          (lay-length l (answer lengths (lay l)) (b .atRunning) (b .atNext) (ap₂ (λ (m n : Lent). layAnswer l m (n .mask)) (h running) (h next)))
+      go (draw p corner d) =
+          let o = drawAnswer d (of p lengths) in
+          put-lengths p lengths b (maskAfterDrawing o d (of p b)) h (draw-length d o (of p b) (ap (drawAnswer d) (h p)))
+      go (lay l) = laid l (answer lengths (lay l)) (λ e. laid-exactly-when .done-only l _ _ (one-answer (lay l) b tt h ∙ e) .cells)
+      go (layPlaced q) =
+          laid (byOffset q) (answer lengths (layPlaced q)) (λ e. laid-placed-exactly-when .done-only q _ _ (one-answer (layPlaced q) b tt h ∙ e) .can-lay .cells)
 
   -- a laying-on that is given the sizes held
   lay-both : (l : Laying) (held : Two Held) (b d : Buffers) → l .size ≡ held .atRunning .size → l .otherSize ≡ held .atNext .size → BothHeld held b d
@@ -60,16 +74,26 @@ module _ (lengths : Two Lent) where
       (ap₂ (λ (x y : Size). laying x y (l .offset)) (sym p) (sym q))
       (put-held running i (lay-held (held .atRunning) (held .atNext) (l .offset) (i running) (i next)))
 
-  one-held : (c : Call) (held : Two Held) (b d : Buffers) (s t : ScratchFor c) → GivenSizes (answer lengths c) c held → HasLengths lengths b → HasLengths lengths d
+  -- one by corners that is given the sizes and the corners held
+  placed-both : (q : Placed) (held : Two Held) (b d : Buffers) → q .own ≡ recordOf (held .atRunning) → q .other ≡ recordOf (held .atNext) → BothHeld held b d
+      → BothHeld (step Done (layPlaced q) held) (after Done (layPlaced q) b) (after Done (layPlaced q) d)
+  placed-both q held b d o p i =
+      let between = offsetBetween (held .atRunning .corner) (held .atNext .corner) in
+      subst (λ (x : Placed). BothHeld (step Done (layPlaced q) held) (after Done (layPlaced x) b) (after Done (layPlaced x) d)) (ap₂ placed (sym o) (sym p))
+      (put-held running i (lay-held (held .atRunning) (held .atNext) between (i running) (i next)))
+
+  one-held : (c : Call) (held : Two Held) (b d : Buffers) (s t : ScratchFor c) → Given (answer lengths c) c held → HasLengths lengths b → HasLengths lengths d
       → BothHeld held b d → BothHeld (step (answer lengths c) c held) (buffersAfter b c s) (buffersAfter d c t)
   one-held c held b d s t g h j i =
       subst₂ (λ (x y : Buffers). BothHeld (step (answer lengths c) c held) x y) (sym (one-after c b s h)) (sym (one-after c d t j)) (go c (answer lengths c) refl g)
     where
-      go : (c : Call) (o : Outcome) → answer lengths c ≡ o → GivenSizes o c held → BothHeld (step o c held) (after o c b) (after o c d)
-      go (draw p e) (Refused f) q g = stay-held p i
-      go (draw p e) Done q g = put-held p i (draw-held e (of p b) (of p d) (ap (drawAnswer e) (h p) ∙ q) (ap (drawAnswer e) (j p) ∙ q))
+      go : (c : Call) (o : Outcome) → answer lengths c ≡ o → Given o c held → BothHeld (step o c held) (after o c b) (after o c d)
+      go (draw p corner e) (Refused f) q g = stay-held p i
+      go (draw p corner e) Done q g = put-held p i (draw-held e corner (of p b) (of p d) (ap (drawAnswer e) (h p) ∙ q) (ap (drawAnswer e) (j p) ∙ q))
       go (lay l) (Refused f) q g = stay-held running i
       go (lay l) Done q g = lay-both l held b d (g .0) (g .1) i
+      go (layPlaced q) (Refused f) e g = stay-held running i
+      go (layPlaced q) Done e g = placed-both q held b d (g .0) (g .1) i
 
   -- ---- the list
 
@@ -96,6 +120,7 @@ every-list lengths cs = record {
   numbers-always = λ b h s ns k. ap numbers (all-answers lengths cs b s h) ∙ list-always lengths cs ns k;
   scratch-never-matters = scratch-never-matters cs;
   lengths-kept = λ b h s. all-lengths lengths cs b s h;
+  records-held = held-is-last-given .only lengths cs;
   near = λ m b h s p column row c r. (all-held lengths cs atFirst b b s s m h h (held-first b b) p .cells column row c r) .close;
   alike = λ m b d h j s t. (
     all-answers lengths cs b s h ∙ sym (all-answers lengths cs d t j),

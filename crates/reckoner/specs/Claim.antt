@@ -1,5 +1,6 @@
--- THE CLAIM about a list of calls (document 01, 'The reckoner', its last paragraph): the engine's run of the list, by
--- the definitions that the calls' contracts cite, against the reckoner's. Definitions only.
+-- THE CLAIM about a list of calls (document 01, 'The reckoner', its last paragraph; document 02, change 8: 'The chain
+-- with exact shares is to hold for masks placed by corners as well as by plain offsets'): the engine's run of the list,
+-- by the definitions that the calls' contracts cite, against the reckoner's. Definitions only.
 use Prim.Native.Nat.{ℕ, _<_}
 use mathlib.Core.Path.{_≡_}
 use mathlib.Core.List.{List, [], _∷_}
@@ -7,10 +8,12 @@ use lib.ListN.{length}
 use lib.Ieee.{Float}
 use Rattle.fraction.specs.Fraction.{natᶠ, _*ᶠ_, Near}
 use Rattle.cells.specs.Cells.{byteAt}
+use Rattle.laying.specs.Placed.{byOffset}
 use Rattle.mask.specs.declared.Outcome.{Outcome}
-use Rattle.mask.specs.Calls.{Lent, lent, Drawing, drawing, outcomeNumber, drawAnswer, maskAfterDrawing, layAnswer, maskAfterLaying}
-use Rattle.mask.specs.Laws.{DrawNumber, LayNumber}
-use Rattle.reckoner.specs.Reckoner.{Place, running, Two, of, put, atFirst, Call, draw, lay, answers, reckoned, Meant}
+use Rattle.mask.specs.Calls.{Lent, lent, Drawing, drawing, outcomeNumber, drawAnswer, maskAfterDrawing, layAnswer, maskAfterLaying, layPlacedAnswer}
+use Rattle.mask.specs.Laws.{DrawNumber, LayNumber, LayPlacedNumber}
+use Rattle.reckoner.specs.Reckoner.{Place, running, Two, of, put, atFirst, recordOf, Call, draw, lay, layPlaced, answers, reckoned, Meant}
+use Rattle.reckoner.specs.LastGiven.{LastGiven}
 
 -- ---- the engine's run
 
@@ -29,8 +32,9 @@ pub record Scratch (d : Drawing) : Type 0 where
   pub counters-long : length counters ≡ d .counters
 
 abbrev pub ScratchFor : Call → Type 0
-ScratchFor (draw p d) = Scratch d
+ScratchFor (draw p corner d) = Scratch d
 ScratchFor (lay l) = Unit {0}
+ScratchFor (layPlaced q) = Unit {0}
 
 abbrev pub Scratches : List Call → Type 0
 Scratches [] = Unit {0}
@@ -42,12 +46,14 @@ given d s = drawing (d .size) (d .words) (s .floats) (s .counters)
 
 -- one call: its answer, and the buffers after it
 abbrev pub answered : Buffers → (c : Call) → ScratchFor c → Outcome
-answered b (draw p d) s = drawAnswer (given d s) (lent (of p b))
+answered b (draw p corner d) s = drawAnswer (given d s) (lent (of p b))
 answered b (lay l) s = layAnswer l (lent (b .atRunning)) (length (b .atNext))
+answered b (layPlaced q) s = layPlacedAnswer q (lent (b .atRunning)) (length (b .atNext))
 
 abbrev pub buffersAfter : Buffers → (c : Call) → ScratchFor c → Buffers
-buffersAfter b (draw p d) s = put p (maskAfterDrawing (answered b (draw p d) s) (given d s) (of p b)) b
+buffersAfter b (draw p corner d) s = put p (maskAfterDrawing (answered b (draw p corner d) s) (given d s) (of p b)) b
 buffersAfter b (lay l) s = put running (maskAfterLaying (answered b (lay l) s) l (b .atRunning) (b .atNext)) b
+buffersAfter b (layPlaced q) s = put running (maskAfterLaying (answered b (layPlaced q) s) (byOffset q) (b .atRunning) (b .atNext)) b
 
 -- 'Each call gets what the last one left in them'
 abbrev pub allAnswered : (cs : List Call) → Scratches cs → Buffers → List Outcome
@@ -58,11 +64,12 @@ abbrev pub buffersAfterAll : (cs : List Call) → Scratches cs → Buffers → B
 buffersAfterAll [] s b = b
 buffersAfterAll (c ∷ cs) s b = buffersAfterAll cs (s .1) (buffersAfter b c (s .0))
 
--- ---- the answers in document 01's numbers, each from its cause (mask/specs/Laws.antt), for mask buffers of these
+-- ---- the answers in the documents' numbers, each from its cause (mask/specs/Laws.antt), for mask buffers of these
 -- lengths
 abbrev pub CallNumber : Two Lent → Call → ℕ → Type 0
-CallNumber lengths (draw p d) n = DrawNumber d (of p lengths) n
+CallNumber lengths (draw p corner d) n = DrawNumber d (of p lengths) n
 CallNumber lengths (lay l) n = LayNumber l (lengths .atRunning) (lengths .atNext .mask) n
+CallNumber lengths (layPlaced q) n = LayPlacedNumber q (lengths .atRunning) (lengths .atNext .mask) n
 
 abbrev pub CallNumbers : Two Lent → List Call → List ℕ → Type 0
 CallNumbers lengths [] [] = Unit {0}
@@ -76,7 +83,7 @@ numbers (o ∷ os) = outcomeNumber o ∷ numbers os
 
 -- ---- the claim, for mask buffers of these lengths
 pub record Claim (lengths : Two Lent) (cs : List Call) : Type 0 where
-  -- every answer is what document 01's table and order give
+  -- every answer is what the table of causes and its order give
   pub answers-are : (b : Buffers) → HasLengths lengths b → (s : Scratches cs) → allAnswered cs s b ≡ answers lengths cs
   -- in numbers, each from its cause: the run gives these numbers and no others
   pub numbers-only : (b : Buffers) → HasLengths lengths b → (s : Scratches cs) → CallNumbers lengths cs (numbers (allAnswered cs s b))
@@ -86,6 +93,8 @@ pub record Claim (lengths : Two Lent) (cs : List Call) : Type 0 where
   pub scratch-never-matters : (b : Buffers) (s t : Scratches cs) → (allAnswered cs s b ≡ allAnswered cs t b) × (buffersAfterAll cs s b ≡ buffersAfterAll cs t b)
   -- the buffers keep their lengths
   pub lengths-kept : (b : Buffers) → HasLengths lengths b → (s : Scratches cs) → HasLengths lengths (buffersAfterAll cs s b)
+  -- what is held of each mask, size and corner, is the record given with its last done drawing
+  pub records-held : (p : Place) → LastGiven lengths p cs (recordOf (of p (reckoned lengths cs atFirst)))
   -- 'After the list each mask cell's byte differs from 255 times its share by at most its allowed difference.'
   pub near : Meant lengths cs atFirst → (b : Buffers) → HasLengths lengths b → (s : Scratches cs) (p : Place) →
       let held = of p (reckoned lengths cs atFirst) in

@@ -7,7 +7,7 @@ use lib.ListN.{drop}
 use Rattle.cells.specs.Cells.{cellsOf}
 use Rattle.cells.proofs.Sizes.{cells-long}
 use Rattle.mask.specs.Calls.{drawing, lent}
-use Rattle.mask.specs.Laws.{drawn, not-drawn}
+use Rattle.mask.specs.Laws.{is-done, is-refused}
 use Rattle.fault.specs.declared.Fault.the-variants.{BufferTooShort}
 use Rattle.mask.proofs.Causes.{can-draw, cannot-draw}
 use Rattle.mask.proofs.Scratch.{floats-short, counters-short, scratch-enough, room-there}
@@ -22,7 +22,7 @@ returns c =
     let d = drawing (args .size) (args .words .now) (args .floats .now) (args .counters .now) in
     let l = lent (args .mask .now) in
     let cause = floats-short d l (pre .0 .0) (pre .0 .1) (pre .1) (omega (arith, c .before .floats-needed .ensures)) in
-    (sym (cannot-draw d l BufferTooShort cause), (refl, (refl, (refl, not-drawn cause))))
+    (sym (cannot-draw d l BufferTooShort cause), (refl, (refl, (refl, is-refused cause))))
 
 returns-2 : tie.Need-returns-2
 returns-2 c =
@@ -31,7 +31,7 @@ returns-2 c =
     let d = drawing (args .size) (args .words .now) (args .floats .now) (args .counters .now) in
     let l = lent (args .mask .now) in
     let cause = counters-short d l (pre .0 .0) (pre .0 .1) (pre .1) (omega (arith, c .before .counters-needed .ensures)) in
-    (sym (cannot-draw d l BufferTooShort cause), (refl, (refl, (refl, not-drawn cause))))
+    (sym (cannot-draw d l BufferTooShort cause), (refl, (refl, (refl, is-refused cause))))
 
 slice-aggregate-draw : tie.Need-slice-aggregate-draw
 slice-aggregate-draw c =
@@ -59,7 +59,7 @@ returns-3 c =
     (omega (arith, tested .if2 .left, tested .before .counters-needed .ensures)) in
     let draw = c .before .before .before .before .before .before .draw .ensures in
     let cells = ap (λ (front : List ℕ). front ++ drop (cellsOf (args .size)) (args .mask .now)) (draw .0) in
-    (sym (can-draw d l can), (cells, (draw .1 .0, (draw .1 .1, drawn can))))
+    (sym (can-draw d l can), (cells, (draw .1 .0, (draw .1 .1, is-done can))))
 
 pub draw-in-spec : {M : Type 1} → statement M
 draw-in-spec =
