@@ -1,6 +1,7 @@
--- The reckoner (document 01, 'The reckoner'; document 02, change 8), in exact fractions. It is given the arguments of the calls and, of masks
--- and scratch, the lengths only. Of the engine's definitions it takes the table of causes (mask/specs/Calls.antt) and
--- how a word list is read (word_list/specs/Words.antt); no float enters. Definitions only.
+-- The reckoner (document 01, 'The reckoner'; document 02, change 8), in exact fractions. It is given the arguments of the
+-- calls and, of masks and scratch, the lengths only. Of the engine's definitions it takes the table of causes
+-- (mask/specs/Calls.antt), how a word list is read (word_list/specs/Words.antt) and the offset between two corners
+-- (laying/specs/Placed.antt); no float enters. Definitions only.
 use Prim.Native.Nat.{ℕ}
 use mathlib.Core.Path.{_≡_}
 use mathlib.Core.Bool.{cond, _&&_}
