@@ -37,7 +37,8 @@ pub record MeetOnTheSheet : Type 0 where
   pub always : (own other : Corner) (column row : ℕ) (otherColumn otherRow x y : ℤ) → At own (pos column) (pos row) x y → At other otherColumn otherRow x y
       → (otherColumn ≡ pos column +ℤ offsetBetween own other .x) × (otherRow ≡ pos row +ℤ offsetBetween own other .y)
 
--- no difference of corners within the limit overflows: a signed 32-bit number is at most 2,147,483,647 from 0
+-- no difference of corners within the limit overflows: whatever is at most 2,147,483,647 from 0 is a signed 32-bit
+-- number
 abbrev pub DifferencesFit : Type 0
 DifferencesFit = (own other : Corner) → CornerAllowed own → CornerAllowed other
     → (natAbs (offsetBetween own other .x) ≤ 2097152) × (natAbs (offsetBetween own other .y) ≤ 2097152)

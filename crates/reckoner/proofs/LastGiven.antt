@@ -10,9 +10,9 @@ use Rattle.cells.specs.declared.MaskRecord.{MaskRecord}
 use Rattle.mask.specs.declared.Outcome.{Outcome}
 use Rattle.mask.specs.declared.Outcome.the-variants.{Done, Refused}
 use Rattle.mask.specs.Calls.{Lent, Drawing, drawAnswer}
-use Rattle.reckoner.specs.Reckoner.{Held, Place, running, next, Two, of, put, recordOf, nothingHeld, atFirst, drawnHeld, laidHeld, laidPlaced}
+use Rattle.reckoner.specs.Reckoner.{Held, Place, running, next, Two, of, put, recordOf, atFirst, drawnHeld, laidHeld, laidPlaced}
 use Rattle.reckoner.specs.Reckoner.{Call, draw, lay, layPlaced, answer, step, reckoned}
-use Rattle.reckoner.specs.LastGiven.{NotDrawn, NoneDrawn, LastGiven, never, last, HeldIsLastGiven}
+use Rattle.reckoner.specs.LastGiven.{NotDrawn, NoneDrawn, noneGiven, LastGiven, never, last, HeldIsLastGiven}
 
 -- a laying-on leaves the records of both masks
 laid-records : (p : Place) (held : Two Held) (h : Held) → recordOf h ≡ recordOf (held .atRunning) → recordOf (of p (put running h held)) ≡ recordOf (of p held)
@@ -90,7 +90,7 @@ module _ (lengths : Two Lent) where
   keeps-all p [] held n = refl
   keeps-all p (c ∷ cs) held n = keeps-all p cs (step (answer lengths c) c held) (n .1) ∙ keeps p c held (n .0)
 
-  first-record : (p : Place) → recordOf (of p atFirst) ≡ recordOf nothingHeld
+  first-record : (p : Place) → recordOf (of p atFirst) ≡ noneGiven
   first-record running = refl
   first-record next = refl
 
@@ -115,7 +115,7 @@ module _ (lengths : Two Lent) where
           (subst (LastGiven lengths p ds) (sym (always ds p given h)) h)
 
       go : NoneDrawn lengths p cs ⊎ LastIn p cs → LastGiven lengths p cs (recordOf (of p (reckoned lengths cs atFirst)))
-      go (inl none) = by-last cs (recordOf nothingHeld) (never none) refl
+      go (inl none) = by-last cs noneGiven (never none) refl
       go (inr (before, (c, (after, (q, ((corner, (d, (e, h))), n)))))) =
           by-last (before ++ draw p corner d ∷ after) (record { size = d .size; corner = corner }) (last before corner d after h n)
           (q ∙ ap (λ (x : Call). before ++ x ∷ after) e)

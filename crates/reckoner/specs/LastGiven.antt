@@ -3,13 +3,14 @@
 -- steps. `HeldIsLastGiven` is proved in proofs/LastGiven.antt.
 use mathlib.Core.Path.{_≡_}
 use mathlib.Core.List.{List, [], _∷_, _++_}
+use lib.IntN.{pos}
 use Rattle.cells.specs.declared.Corner.{Corner}
 use Rattle.cells.specs.declared.MaskRecord.{MaskRecord}
 use Rattle.mask.specs.declared.Outcome.the-variants.{Done}
 use Rattle.mask.specs.Calls.{Lent, Drawing, drawAnswer}
-use Rattle.reckoner.specs.Reckoner.{Place, Two, of, recordOf, nothingHeld, atFirst, Call, draw, answer, reckoned}
+use Rattle.reckoner.specs.Reckoner.{Place, Two, of, recordOf, atFirst, Call, draw, answer, reckoned}
 
--- no call of the list is a done drawing of the mask at this place
+-- a call that is no done drawing of the running, or of the next mask; and that none of a list is
 abbrev pub NotDrawn : Two Lent → Place → Call → Type 0
 NotDrawn lengths p c = (corner : Corner) (d : Drawing) → c ≡ draw p corner d → answer lengths c ≡ Done → ⊥
 
@@ -17,9 +18,12 @@ abbrev pub NoneDrawn : Two Lent → Place → List Call → Type 0
 NoneDrawn lengths p [] = Unit {0}
 NoneDrawn lengths p (c ∷ cs) = NotDrawn lengths p c × NoneDrawn lengths p cs
 
--- the record given with the last done drawing of the mask at this place, or that of no mask
+abbrev pub noneGiven : MaskRecord
+noneGiven = record { size = record { width = 0; height = 0 }; corner = record { x = pos 0; y = pos 0 } }
+
+-- the record given with the last done drawing of that mask; before any, 0 by 0 at (0, 0)
 pub data LastGiven (lengths : Two Lent) (p : Place) : List Call → MaskRecord → Type 0 where
-  never : {cs : List Call} → NoneDrawn lengths p cs → LastGiven lengths p cs (recordOf nothingHeld)
+  never : {cs : List Call} → NoneDrawn lengths p cs → LastGiven lengths p cs noneGiven
   last : (before : List Call) (corner : Corner) (d : Drawing) (after : List Call) → drawAnswer d (of p lengths) ≡ Done → NoneDrawn lengths p after
       → LastGiven lengths p (before ++ draw p corner d ∷ after) (record { size = d .size; corner = corner })
 
