@@ -17,28 +17,28 @@ use Rattle.reckoner.specs.Claim.{Buffers, Scratches, buffersAfterAll}
 
 -- ---- lists that draw at corners and lay by them are meant
 
--- a frame of a card: what is drawn, and where its corner lies
-pub record Frame : Type 0 where
+-- a drawing, and where its mask's corner lies
+pub record DrawingAt : Type 0 where
   pub corner : Corner
   pub drawing : Drawing
 
-abbrev pub recordGiven : Frame → MaskRecord
+abbrev pub recordGiven : DrawingAt → MaskRecord
 recordGiven f = record { size = f .drawing .size; corner = f .corner }
 
--- each frame is drawn as the next mask and laid on the running one, which has this record
-abbrev pub framesLaid : MaskRecord → List Frame → List Call
-framesLaid own [] = []
-framesLaid own (f ∷ fs) = draw next (f .corner) (f .drawing) ∷ layPlaced (placed own (recordGiven f)) ∷ framesLaid own fs
+-- each is drawn as the next mask and laid on the running one, which has this record
+abbrev pub othersLaid : MaskRecord → List DrawingAt → List Call
+othersLaid own [] = []
+othersLaid own (f ∷ fs) = draw next (f .corner) (f .drawing) ∷ layPlaced (placed own (recordGiven f)) ∷ othersLaid own fs
 
--- a card: its first frame is drawn as the running mask, and the others are laid on it
-abbrev pub card : Frame → List Frame → List Call
-card first fs = draw running (first .corner) (first .drawing) ∷ framesLaid (recordGiven first) fs
+-- a card: its first drawing is the running mask, and the others are laid on it
+abbrev pub card : DrawingAt → List DrawingAt → List Call
+card first fs = draw running (first .corner) (first .drawing) ∷ othersLaid (recordGiven first) fs
 
--- a frame that can be drawn, at a corner within the limit
-abbrev pub CanPlace : Lent → Frame → Type 0
+-- it can be drawn, at a corner within the limit
+abbrev pub CanPlace : Lent → DrawingAt → Type 0
 CanPlace lent f = CanDraw (f .drawing) lent × CornerAllowed (f .corner)
 
-abbrev pub AllPlaced : Lent → List Frame → Type 0
+abbrev pub AllPlaced : Lent → List DrawingAt → Type 0
 AllPlaced lent [] = Unit {0}
 AllPlaced lent (f ∷ fs) = CanPlace lent f × AllPlaced lent fs
 
@@ -46,11 +46,11 @@ abbrev pub AllDone : List Outcome → Type 0
 AllDone [] = Unit {0}
 AllDone (o ∷ os) = (o ≡ Done) × AllDone os
 
--- whatever was held before, a card of such frames is meant, and each of its calls is done
+-- whatever was held before, a card of such drawings is meant, and each of its calls is done
 pub record CardsAreMeant : Type 0 where
-  pub meant : (lengths : Two Lent) (first : Frame) (fs : List Frame) → CanPlace (lengths .atRunning) first → AllPlaced (lengths .atNext) fs
+  pub meant : (lengths : Two Lent) (first : DrawingAt) (fs : List DrawingAt) → CanPlace (lengths .atRunning) first → AllPlaced (lengths .atNext) fs
       → (held : Two Held) → Meant lengths (card first fs) held
-  pub done : (lengths : Two Lent) (first : Frame) (fs : List Frame) → CanPlace (lengths .atRunning) first → AllPlaced (lengths .atNext) fs
+  pub done : (lengths : Two Lent) (first : DrawingAt) (fs : List DrawingAt) → CanPlace (lengths .atRunning) first → AllPlaced (lengths .atNext) fs
       → AllDone (answers lengths (card first fs))
 
 -- ---- lists that lay by offsets alone are as before: the corners given with their drawings decide nothing
@@ -71,8 +71,8 @@ scratchToo (laid l same) s = (s .0, scratchToo same (s .1))
 abbrev pub SameMask : Held → Held → Type 0
 SameMask h k = (h .size ≡ k .size) × ((column row : ℕ) → h .cell column row ≡ k .cell column row)
 
-abbrev pub SameCells : Two Held → Two Held → Type 0
-SameCells h k = (p : Place) → SameMask (of p h) (of p k)
+abbrev pub SameMasks : Two Held → Two Held → Type 0
+SameMasks h k = (p : Place) → SameMask (of p h) (of p k)
 
 -- they have the same answers and leave the same bytes, both are meant or neither is, and each cell has the same share
 -- and allowed difference
@@ -81,4 +81,4 @@ pub record CornersDecideNothing : Type 0 where
   pub same-bytes : (cs ds : List Call) (same : SameButCorners cs ds) (s : Scratches cs) (b : Buffers)
       → buffersAfterAll cs s b ≡ buffersAfterAll ds (scratchToo same s) b
   pub meant-too : (lengths : Two Lent) (cs ds : List Call) → SameButCorners cs ds → Meant lengths cs atFirst → Meant lengths ds atFirst
-  pub same-cells : (lengths : Two Lent) (cs ds : List Call) → SameButCorners cs ds → SameCells (reckoned lengths cs atFirst) (reckoned lengths ds atFirst)
+  pub same-shares : (lengths : Two Lent) (cs ds : List Call) → SameButCorners cs ds → SameMasks (reckoned lengths cs atFirst) (reckoned lengths ds atFirst)
