@@ -6,7 +6,7 @@ use lib.IntN.{ℤ, pos, negsuc, natAbs}
 use lib.Signed.{ltZ}
 use Rattle.cells.specs.declared.Corner.{Corner}
 
--- 'a corner number beyond ±1,048,576'
+-- 'a corner number beyond ±1,048,576': negsuc n is the whole number -(n + 1), so the first is below -1,048,576
 unfoldable pub cornerNumberOut : ℤ → Bool
 cornerNumberOut n = ltZ n (negsuc 1048575) || ltZ (pos 1048576) n
 
