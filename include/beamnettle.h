@@ -50,7 +50,7 @@ enum {
     BEAMNETTLE_NUMBER_OUT_OF_RANGE = 1,     /* a number is not finite, or its size is over 2^20 */
     BEAMNETTLE_IMPROPER_BOX = 2,            /* a half extent or radius below 0, or a radius over its half extent */
     BEAMNETTLE_MASK_TOO_LARGE = 3,          /* a mask width or height over 4,096 */
-    BEAMNETTLE_BUFFER_TOO_SHORT = 4,        /* mask, other mask, scratch, file, size, corner or floats too short */
+    BEAMNETTLE_BUFFER_TOO_SHORT = 4,        /* mask, ink, other mask, scratch, file, size, corner, floats too short */
     BEAMNETTLE_LIST_ENDS_EARLY = 5,         /* a word list ends inside a group */
     BEAMNETTLE_COUNT_OUT_OF_RANGE = 6,      /* a count word below 0, or points passing 2,048 in the list */
     BEAMNETTLE_COORDINATE_OUT_OF_RANGE = 7, /* a coordinate word beyond +-1,048,576 */
@@ -99,6 +99,9 @@ enum { BEAMNETTLE_MOST_BOXES = 4096 };
 /* The largest size of a corner's number, laying on by corners: one more is BEAMNETTLE_CORNER_OUT_OF_RANGE. */
 enum { BEAMNETTLE_LARGEST_CORNER_NUMBER = 1048576 };
 
+/* How many numbers of a mask's ink belong to a row: 2 * height are needed in all. */
+enum { BEAMNETTLE_INK_PER_ROW = 2 };
+
 #ifdef __cplusplus
 static_assert(sizeof(float) == 4 && sizeof(size_t) == 8, "a float of 32 bits, a length of 64");
 static_assert(sizeof(struct beamnettle_box) == 10 * sizeof(float), "a box is ten floats");
@@ -111,7 +114,17 @@ _Static_assert(sizeof(struct beamnettle_box) == 10 * sizeof(float), "a box is te
  * sheet, in cells. The caller keeps it. A mask has the corner that it was last drawn at; laying on leaves both masks'
  * corners as they are, and a mask that is read from a file stands at (0, 0).
  *
- * Draws a word list into the first width * height bytes of a mask, rows first; later bytes are not
+ * A mask's ink says which part of each row has bytes that are not 0. Row r has its first such column at ink[2 * r] and
+ * the column after its last at ink[2 * r + 1]; a blank row has 0 and 0. Each call that writes a mask is lent its ink
+ * right behind it, at least 2 * height numbers, which may hold anything before. After a done call they are what a scan
+ * of the mask finds; at width 0 all of them are 0. Numbers past them stay as they were, so a smaller mask drawn over a
+ * larger one leaves numbers of the larger one behind its own. An odd length is allowed. Too few numbers are refused as
+ * too few bytes of the mask are: with 4, at the same place in the order. Ink is aligned to 2 bytes and must not overlap
+ * the mask. The other mask of a laying-on is lent without ink.
+ * A print loop may send only those stretches: of row r the bytes from mask[r * width + ink[2 * r]] up to, but not
+ * including, mask[r * width + ink[2 * r + 1]]. On blank paper that prints the same cells as sending every byte.
+ *
+ * Draws a word list into the first width * height bytes of a mask, rows first, and writes its ink; later bytes are not
  * changed. Words are relative to the mask's corner (x, y), which may be any two numbers: it decides neither the answer
  * nor a byte. A group is a rule word (0 non-zero, else even-odd), a count of contours, then per contour a
  * count of points and that many pairs of coordinates in 256ths of a cell; a contour closes from its last
@@ -119,26 +132,26 @@ _Static_assert(sizeof(struct beamnettle_box) == 10 * sizeof(float), "a box is te
  * empty list gives zeros. Scratch is at least
  * width + 15 * points floats and (width + 63) / 64 + height + 1 counters; it may hold anything before
  * and is all zero after a done drawing.
- * Returns 0, or 3, then 4 for the mask, then 5, 6 or 7 at the first word at fault, then 4 for scratch. */
-uint8_t beamnettle_draw(uint8_t *mask, size_t mask_length, size_t width, size_t height, int32_t x, int32_t y,
-                        const int32_t *words, size_t words_length, float *floats, size_t floats_length,
-                        uint64_t *counters, size_t counters_length);
+ * Returns 0, or 3, then 4 for the mask or its ink, then 5, 6 or 7 at the first word at fault, then 4 for scratch. */
+uint8_t beamnettle_draw(uint8_t *mask, size_t mask_length, uint16_t *ink, size_t ink_length, size_t width,
+                        size_t height, int32_t x, int32_t y, const int32_t *words, size_t words_length, float *floats,
+                        size_t floats_length, uint64_t *counters, size_t counters_length);
 
 /* Lays the other mask on a mask: cell (column, row) meets the other's cell (column + offset_x,
  * row + offset_y) and becomes (cell * other + 127) / 255, rounded down, or 0 where the other has no such
- * cell. Later bytes than width * height are not changed, nor is the other mask.
- * Returns 0, or 3 (either size), then 4 (the mask, then the other). */
-uint8_t beamnettle_lay(uint8_t *mask, size_t mask_length, size_t width, size_t height, const uint8_t *other,
-                       size_t other_length, size_t other_width, size_t other_height, int32_t offset_x,
-                       int32_t offset_y);
+ * cell; then writes the mask's ink. Later bytes than width * height are not changed, nor is the other mask.
+ * Returns 0, or 3 (either size), then 4 (the mask or its ink, then the other). */
+uint8_t beamnettle_lay(uint8_t *mask, size_t mask_length, uint16_t *ink, size_t ink_length, size_t width,
+                       size_t height, const uint8_t *other, size_t other_length, size_t other_width,
+                       size_t other_height, int32_t offset_x, int32_t offset_y);
 
 /* The same by where the masks lie on the sheet: cells meet that lie at one place of it. It is beamnettle_lay with the
  * offset (x - other_x, y - other_y).
  * Returns 0, or 3 (either size), then 16 where a corner number is beyond +-1,048,576 (the mask's, then the other's),
- * then 4 (the mask, then the other). */
-uint8_t beamnettle_lay_placed(uint8_t *mask, size_t mask_length, size_t width, size_t height, int32_t x, int32_t y,
-                              const uint8_t *other, size_t other_length, size_t other_width, size_t other_height,
-                              int32_t other_x, int32_t other_y);
+ * then 4 (the mask or its ink, then the other). */
+uint8_t beamnettle_lay_placed(uint8_t *mask, size_t mask_length, uint16_t *ink, size_t ink_length, size_t width,
+                              size_t height, int32_t x, int32_t y, const uint8_t *other, size_t other_length,
+                              size_t other_width, size_t other_height, int32_t other_x, int32_t other_y);
 
 /* Writes a mask to the first bytes of file as a raw Netpbm PGM: "P5", line feed, width, a blank, height, line
  * feed, "255", line feed, then the cells, rows first. Later bytes are not changed, nor is the mask. A file takes 11
@@ -150,13 +163,14 @@ uint32_t beamnettle_write_pgm(const uint8_t *mask, size_t mask_length, size_t wi
 /* Reads a raw Netpbm PGM, which is all that is lent as file: "P5", then width, height and depth, each with one or
  * more bytes of whitespace (blank, tab, carriage return, line feed) before it, one byte of whitespace, and the
  * cells. A number has one to nine digits, leading zeros counted. Comments are not taken. Writes width and height
- * to size, 0 and 0 to corner, since a mask that is read stands at (0, 0), and the cells to the first width * height
- * bytes of mask; what lies past them is not changed, nor is the file.
+ * to size, 0 and 0 to corner, since a mask that is read stands at (0, 0), the cells to the first width * height
+ * bytes of mask, and the mask's ink; what lies past them is not changed, nor is the file.
  * Returns 0; or 13 where the mark, a number or whitespace is at fault or the width or height is 0, then 14 where
- * the depth is not 255, then 3, then 15 where there are not just width * height cells, then 4 where the mask is too
- * short or size or corner has fewer than two numbers. */
-uint8_t beamnettle_read_pgm(const uint8_t *file, size_t file_length, uint8_t *mask, size_t mask_length, size_t *size,
-                            size_t size_length, int32_t *corner, size_t corner_length);
+ * the depth is not 255, then 3, then 15 where there are not just width * height cells, then 4 where the mask or its ink
+ * is too short or size or corner has fewer than two numbers. */
+uint8_t beamnettle_read_pgm(const uint8_t *file, size_t file_length, uint8_t *mask, size_t mask_length, uint16_t *ink,
+                            size_t ink_length, size_t *size, size_t size_length, int32_t *corner,
+                            size_t corner_length);
 
 /* The box that an outline draws: one contour, once around a parallelogram, or, where it has curves, around a
  * rectangle along the axes with four corners alike, square or round, or an ellipse along the axes. An outline with

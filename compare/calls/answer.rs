@@ -1,14 +1,26 @@
-//! A list's answers, by femtovg; those about PGM files by the second reader and writer. Of a bad line it
-//! says what is wrong, as the program `calls` does.
-use crate::netpbm;
+//! A list's answers, by femtovg; those about PGM files by the second reader and writer, and ink by a scan of
+//! the Rust's masks. Of a bad line it says what is wrong, as the program `calls` does.
+use crate::{netpbm, scan::scan};
 use femtovg::calls::{self, Both, Box10, Drawing, Fill, Fitted};
 use std::str::SplitWhitespace;
 
-#[derive(Default)]
 pub struct State {
     /// the running mask's buffer and the next one's
     buffers: [Vec<u8>; 2],
+    /// the ink of both
+    ink: [Vec<u16>; 2],
     drawing: Drawing,
+}
+
+/// At first a buffer has no bytes, and ink enough for every mask.
+impl Default for State {
+    fn default() -> Self {
+        Self {
+            buffers: [vec![], vec![]],
+            ink: [vec![7; FIRST_INK], vec![7; FIRST_INK]],
+            drawing: Drawing::default(),
+        }
+    }
 }
 
 /// What is wrong with a line.
@@ -22,7 +34,9 @@ const NOT_A_NUMBER: Bad = "a decimal number is missing, badly written or too lar
 const NOT_A_FLOAT: Bad = "a float is not written as eight hexadecimal digits";
 const NOT_HEX: Bad = "the bytes are not written as pairs of hexadecimal digits";
 const NOT_A_BYTE: Bad = "a verb or a byte is not a decimal number up to 255";
+const NOT_SIXTEEN_BITS: Bad = "an ink buffer's number is not a decimal number up to 65,535";
 const BUFFER_TOO_LONG: Bad = "a buffer has at most 65,536 bytes";
+const INK_TOO_LONG: Bad = "an ink buffer has at most 8,200 numbers";
 const TOO_MANY_FLOATS: Bad = "a line takes at most 2,573 floats";
 const TOO_MANY_VERBS: Bad = "an outline's line takes at most 512 verbs";
 const TOO_MANY_BOXES: Bad = "a touch list's line takes at most 257 boxes";
@@ -34,6 +48,9 @@ pub const LARGEST: usize = 2_684_354_559;
 const MOST_FLOATS: usize = 2573;
 /// The most bytes of a buffer or a file.
 const MOST_BYTES: usize = 65_536;
+/// How many numbers an ink buffer has at first, and at most.
+pub const FIRST_INK: usize = 8192;
+const MOST_INK: usize = 8200;
 
 type Fields<'a> = SplitWhitespace<'a>;
 
@@ -311,21 +328,51 @@ impl State {
         Ok(shown(buffer))
     }
 
+    fn fill_ink(&mut self, f: &mut Fields) -> Result<String, Bad> {
+        let ink = &mut self.ink[named_buffer(f)?];
+        let (length, number) = (number(f)?, number(f)?);
+        if length > MOST_INK {
+            return Err(INK_TOO_LONG);
+        }
+        let number = number.try_into().map_err(|_| NOT_SIXTEEN_BITS)?;
+        ended(f)?;
+        *ink = vec![number; length];
+        Ok(done(Ok(())))
+    }
+
+    fn show_ink(&mut self, f: &mut Fields) -> Result<String, Bad> {
+        let ink = &mut self.ink[named_buffer(f)?];
+        ended(f)?;
+        if ink.is_empty() {
+            return Ok("-".to_string());
+        }
+        let numbers: Vec<String> = ink.iter().map(u16::to_string).collect();
+        Ok(numbers.join(" "))
+    }
+
+    /// The answer to a call that writes a buffer's mask, of this size: where it is done, the mask is scanned for ink.
+    fn inked(&mut self, at: usize, size: [usize; 2], answer: Result<(), u8>) -> Result<(), u8> {
+        answer?;
+        scan(&self.buffers[at], size, &mut self.ink[at]);
+        Ok(())
+    }
+
     /// A drawing, with a corner or without one: no corner changes an answer or a byte.
     fn draw(&mut self, f: &mut Fields, placed: bool) -> Result<String, Bad> {
-        let buffer = &mut self.buffers[named_buffer(f)?];
+        let at = named_buffer(f)?;
+        let buffer = &mut self.buffers[at];
         let size = [number(f)?, number(f)?];
         if placed {
             pair(f)?;
         }
-        let lent = [buffer.len(), number(f)?, number(f)?];
+        let lent = [buffer.len(), self.ink[at].len(), number(f)?, number(f)?];
         let words = f.map(word).collect::<Result<Vec<i32>, _>>()?;
         let answer = Drawing::check(size, &words, lent);
         if answer.is_ok() {
             let cells = self.drawing.cells(size, words);
             buffer[..cells.len()].copy_from_slice(cells);
         }
-        Ok(done(answer))
+        Ok(done(self.inked(at, size, answer)))
     }
 
     fn lay(&mut self, f: &mut Fields) -> Result<String, Bad> {
@@ -333,17 +380,18 @@ impl State {
         let other_size = [number(f)?, number(f)?];
         let offset = pair(f)?;
         ended(f)?;
-        let [run, next] = &mut self.buffers;
-        Ok(done(calls::lay(run, size, next, other_size, offset)))
+        let ([run, next], ink) = (&mut self.buffers, self.ink[0].len());
+        let answer = calls::lay(run, ink, size, next, other_size, offset);
+        Ok(done(self.inked(0, size, answer)))
     }
 
     fn lay_at(&mut self, f: &mut Fields) -> Result<String, Bad> {
         let (size, corner) = ([number(f)?, number(f)?], pair(f)?);
         let (met, place) = ([number(f)?, number(f)?], pair(f)?);
         ended(f)?;
-        let [run, next] = &mut self.buffers;
-        let answer = calls::lay_placed(run, size, corner, next, met, place);
-        Ok(done(answer))
+        let ([run, next], ink) = (&mut self.buffers, self.ink[0].len());
+        let answer = calls::lay_placed(run, ink, size, corner, next, met, place);
+        Ok(done(self.inked(0, size, answer)))
     }
 
     /// The file's length, and all that is lent for it: what lies past the file shows too.
@@ -360,11 +408,12 @@ impl State {
     }
 
     fn read_pgm(&mut self, f: &mut Fields) -> Result<String, Bad> {
-        let mask = &mut self.buffers[named_buffer(f)?];
+        let at = named_buffer(f)?;
+        let (mask, ink) = (&mut self.buffers[at], self.ink[at].len());
         let (file, mut size, mut corner) = (bytes(f)?, [0; 2], [9; 2]);
-        let answer = netpbm::read(&file, mask, &mut size, &mut corner);
+        let answer = netpbm::read(&file, mask, ink, &mut size, &mut corner);
         let ([width, height], [x, y]) = (size, corner);
-        Ok(answered(answer, |()| {
+        Ok(answered(self.inked(at, size, answer), |()| {
             format!("size {width} {height} corner {x} {y}")
         }))
     }
@@ -376,6 +425,8 @@ impl State {
             "buf" => self.set(f),
             "bufn" => self.fill(f),
             "show" => self.show(f),
+            "ink" => self.fill_ink(f),
+            "show_ink" => self.show_ink(f),
             "draw" => self.draw(f, false),
             "draw_at" => self.draw(f, true),
             "lay" => self.lay(f),

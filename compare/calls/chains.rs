@@ -1,6 +1,6 @@
 //! Layings-on, and chains of them with drawings.
 use crate::{
-    answer,
+    answer::{self, FIRST_INK},
     list::{List, Random},
 };
 use femtovg::calls::Drawing;
@@ -148,7 +148,7 @@ fn chain_draw(l: &mut List, r: &mut Random, mask: &mut Mask) {
     let ([width, height], name) = (size, mask.name);
     l.line(&format!("draw {name} {width} {height} {floats} 11{text}"));
     l.line(&format!("show {name}"));
-    if Drawing::check(size, &words, [mask.length, floats, 11]).is_ok() {
+    if Drawing::check(size, &words, [mask.length, FIRST_INK, floats, 11]).is_ok() {
         mask.held = size;
     }
 }

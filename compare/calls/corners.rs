@@ -1,6 +1,6 @@
 //! Masks that know their corner on the sheet: drawings at corners, layings-on by them, and both in chains.
 use crate::{
-    answer,
+    answer::{self, FIRST_INK},
     chains::{chain_offset, chain_words},
     list::{List, Random},
 };
@@ -266,7 +266,7 @@ fn chain_draw(l: &mut List, r: &mut Random, mask: &mut Mask, beside: [i32; 2]) {
         l.line(&format!(
             "draw_at {name} {width} {height} {x} {y} 1000 11{text}"
         ));
-        if Drawing::check(size, &words, [mask.length, 1000, 11]).is_ok() {
+        if Drawing::check(size, &words, [mask.length, FIRST_INK, 1000, 11]).is_ok() {
             (mask.size, mask.corner) = (size, corner);
         }
     }

@@ -5,6 +5,7 @@ use crate::{
     corners::placed,
     curves::curves,
     holds::holds,
+    inks::inks,
     pgm::pgms,
     scissors::{bad_scissors, scissors},
     touches::{sheets, touches},
@@ -639,7 +640,7 @@ pub fn list() -> String {
     let mut list = List::default();
     for part in [
         examples, numbers, improper, masks, layings, offsets, outlines, corners, random, chains,
-        touches, scissors, holds, bad_lines, pgms, curves, row_starts, sheets, placed,
+        touches, scissors, holds, bad_lines, pgms, curves, row_starts, sheets, placed, inks,
     ] {
         part(&mut list);
     }

@@ -1,17 +1,21 @@
 //! `calls list` writes the fixed list of calls; `calls answer` answers a list from standard input
-//! by femtovg, behind document 01's refusals, and of PGM files by a second reader and writer; `calls count`
-//! says how many calls of each kind a list has.
+//! by femtovg, behind document 01's refusals, of PGM files by a second reader and writer, and of ink by a plain
+//! scan; `calls count` says how many calls of each kind a list has.
 mod answer;
 mod chains;
 mod corners;
 mod curves;
 mod holds;
+mod inks;
 mod list;
 #[path = "../netpbm/pgm.rs"]
 mod netpbm;
 mod pgm;
 #[path = "../outlines/ring.rs"]
 mod ring;
+#[path = "../ink/scan.rs"]
+#[allow(dead_code)]
+mod scan;
 mod scissors;
 mod touches;
 

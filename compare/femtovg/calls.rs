@@ -165,18 +165,19 @@ pub struct Drawing {
 }
 
 impl Drawing {
-    /// The answer to a drawing, before anything is drawn. `lent` is how many mask bytes, scratch
+    /// The answer to a drawing, before anything is drawn. `lent` is how many mask bytes, numbers of ink, scratch
     /// floats and scratch counters there are.
-    pub fn check(size: [usize; 2], words: &[i32], lent: [usize; 3]) -> Result<(), Refused> {
+    pub fn check(size: [usize; 2], words: &[i32], lent: [usize; 4]) -> Result<(), Refused> {
         let [width, height] = size;
         if width > 4096 || height > 4096 {
             return Err(MASK_TOO_LARGE);
         }
-        if lent[0] < width * height {
+        let [bytes, ink, floats, counters] = lent;
+        if bytes < width * height || ink < 2 * height {
             return Err(TOO_SHORT);
         }
         let points = check_list(words)?;
-        if lent[1] < width + 15 * points || lent[2] < (width + 63) / 64 + height + 1 {
+        if floats < width + 15 * points || counters < (width + 63) / 64 + height + 1 {
             return Err(TOO_SHORT);
         }
         Ok(())
@@ -202,19 +203,40 @@ fn check_sides(sizes: [[usize; 2]; 2]) -> Result<(), Refused> {
     Ok(())
 }
 
-/// Lays the other mask on a mask.
+/// The answer to a laying-on, before anything is laid. `lent` is how many bytes of the mask, numbers of its ink and
+/// bytes of the other mask there are.
+pub fn check_laying(sizes: [[usize; 2]; 2], lent: [usize; 3]) -> Result<(), Refused> {
+    check_sides(sizes)?;
+    let ([size, other], [bytes, ink, other_bytes]) = (sizes, lent);
+    if bytes < size[0] * size[1] || ink < 2 * size[1] || other_bytes < other[0] * other[1] {
+        return Err(TOO_SHORT);
+    }
+    Ok(())
+}
+
+/// The same by corners.
+pub fn check_placed(
+    sizes: [[usize; 2]; 2],
+    corners: [[i32; 2]; 2],
+    lent: [usize; 3],
+) -> Result<(), Refused> {
+    check_sides(sizes)?;
+    check_corner(corners[0])?;
+    check_corner(corners[1])?;
+    check_laying(sizes, lent)
+}
+
+/// Lays the other mask on a mask, where so many numbers are lent for its ink.
 pub fn lay(
     mask: &mut [u8],
+    ink: usize,
     size: [usize; 2],
     other: &[u8],
     other_size: [usize; 2],
     offset: [i32; 2],
 ) -> Result<(), Refused> {
-    check_sides([size, other_size])?;
+    check_laying([size, other_size], [mask.len(), ink, other.len()])?;
     let cells = size[0] * size[1];
-    if mask.len() < cells || other.len() < other_size[0] * other_size[1] {
-        return Err(TOO_SHORT);
-    }
     if cells > 0 {
         coverage::intersect(&mut mask[..cells], size, other, other_size, offset);
     }
@@ -234,20 +256,20 @@ fn check_corner(corner: [i32; 2]) -> Result<(), Refused> {
 /// corners and is given how far they lie apart.
 pub fn lay_placed(
     mask: &mut [u8],
+    ink: usize,
     size: [usize; 2],
     corner: [i32; 2],
     other: &[u8],
     other_size: [usize; 2],
     other_corner: [i32; 2],
 ) -> Result<(), Refused> {
-    check_sides([size, other_size])?;
-    check_corner(corner)?;
-    check_corner(other_corner)?;
+    let (sizes, corners) = ([size, other_size], [corner, other_corner]);
+    check_placed(sizes, corners, [mask.len(), ink, other.len()])?;
     let offset = [0, 1].map(|axis| {
         let apart = corner[axis] as i64 - other_corner[axis] as i64;
         i32::try_from(apart).expect("corners within their limits")
     });
-    lay(mask, size, other, other_size, offset)
+    lay(mask, ink, size, other, other_size, offset)
 }
 
 // ---- boxes

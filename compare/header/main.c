@@ -78,6 +78,40 @@ static int wrote_both(const float *expected) {
         CHECK(wrote(NULL, 0));        \
     } while (0)
 
+/* ---- ink: rubbish, at least three numbers more than a call is lent */
+
+enum { INK_ROOM = 12 };
+
+static uint16_t ink[INK_ROOM];
+
+static uint16_t ink_rubbish(size_t i) { return (uint16_t)(60000 + i); }
+
+static void lend_ink(void) {
+    for (size_t i = 0; i < INK_ROOM; i++) ink[i] = ink_rubbish(i);
+}
+
+/* Whether these numbers were written to the ink, and nothing else. */
+static int inked(const uint16_t *expected, size_t n) {
+    for (size_t i = 0; i < INK_ROOM; i++)
+        if (ink[i] != (i < n ? expected[i] : ink_rubbish(i))) return 0;
+    return 1;
+}
+
+#define INKED(...) inked((const uint16_t[]){__VA_ARGS__}, sizeof((const uint16_t[]){__VA_ARGS__}) / sizeof(uint16_t))
+
+static int ink_left(void) { return inked(NULL, 0); }
+
+/* Whether a print loop that sends each row's stretch, and nothing else, onto blank paper prints a mask's cells. */
+static int prints(const uint8_t *mask, size_t width, size_t height) {
+    uint8_t paper[16] = {0};
+    for (size_t r = 0; r < height; r++) {
+        const uint16_t *row = ink + BEAMNETTLE_INK_PER_ROW * r;
+        size_t first = r * width + row[0], end = r * width + row[1];
+        memcpy(paper + first, mask + first, end - first);
+    }
+    return memcmp(paper, mask, width * height) == 0;
+}
+
 /* ---- masks */
 
 /* A rectangle from (1, 0) to (2.5, 1.5) cells on a mask of 3 by 2. A cell is 255 times its share, to nearest. */
@@ -96,53 +130,70 @@ static const struct {
 } CORNERS[] = {{0, 0}, {-3, 7}, {INT32_MAX, INT32_MIN}, {INT32_MIN, INT32_MAX}};
 static int32_t corner_x, corner_y;
 
-static uint8_t draw(size_t mask, size_t width, const int32_t *words, size_t length, size_t floats, size_t counters) {
+static uint8_t draw(size_t mask, size_t numbers, size_t width, const int32_t *words, size_t length, size_t floats,
+                    size_t counters) {
     for (size_t i = 0; i < 9; i++) lent.mask[i] = (uint8_t)(90 + i);
     for (size_t i = 0; i < FLOATS + 2; i++) lent.floats[i] = rubbish(i);
     for (size_t i = 0; i < COUNTERS + 2; i++) lent.counters[i] = 50 + i;
     before = lent;
-    return beamnettle_draw(lent.mask, mask, width, 2, corner_x, corner_y, words, length, lent.floats, floats,
-                           lent.counters, counters);
+    lend_ink();
+    return beamnettle_draw(lent.mask, mask, ink, numbers, width, 2, corner_x, corner_y, words, length, lent.floats,
+                           floats, lent.counters, counters);
 }
 
 static int left_as_it_was(void) {
     return memcmp(lent.mask, before.mask, sizeof lent.mask) == 0 &&
            memcmp(lent.floats, before.floats, sizeof lent.floats) == 0 &&
-           memcmp(lent.counters, before.counters, sizeof lent.counters) == 0;
+           memcmp(lent.counters, before.counters, sizeof lent.counters) == 0 && ink_left();
 }
 
 static void drawing(void) {
     const uint8_t cells[] = {0, 255, 128, 0, 128, 64};
-    CHECK(draw(8, 3, RECTANGLE, WORDS, FLOATS, COUNTERS) == BEAMNETTLE_DONE);
-    CHECK(memcmp(lent.mask, cells, 6) == 0);
-    CHECK(memcmp(lent.mask + 6, before.mask + 6, 3) == 0);
+    for (size_t past = 0; past < 4; past++) {
+        CHECK(draw(8, 4 + past, 3, RECTANGLE, WORDS, FLOATS, COUNTERS) == BEAMNETTLE_DONE);
+        CHECK(memcmp(lent.mask, cells, 6) == 0);
+        CHECK(memcmp(lent.mask + 6, before.mask + 6, 3) == 0);
+        CHECK(INKED(1, 3, 1, 3) && prints(lent.mask, 3, 2));
+    }
     for (size_t i = 0; i < FLOATS; i++) CHECK(lent.floats[i] == 0.0f && !signbit(lent.floats[i]));
     for (size_t i = 0; i < COUNTERS; i++) CHECK(lent.counters[i] == 0);
     CHECK(memcmp(lent.floats + FLOATS, before.floats + FLOATS, 2 * sizeof(float)) == 0);
     CHECK(memcmp(lent.counters + COUNTERS, before.counters + COUNTERS, 2 * sizeof(uint64_t)) == 0);
 
+    /* an empty list: a mask of zeros */
+    CHECK(draw(6, 4, 3, NULL, 0, 3, COUNTERS) == BEAMNETTLE_DONE);
+    CHECK(memcmp(lent.mask, (const uint8_t[6]){0}, 6) == 0 && memcmp(lent.mask + 6, before.mask + 6, 3) == 0);
+    CHECK(INKED(0, 0, 0, 0) && prints(lent.mask, 3, 2));
+}
+
+static void refusing_drawings(void) {
     const struct {
-        size_t mask, width;
+        size_t mask, numbers, width;
         const int32_t *words;
         size_t length, floats, counters;
         uint8_t number;
     } refused[] = {
-        {8, 4097, RECTANGLE, WORDS, FLOATS, COUNTERS, BEAMNETTLE_MASK_TOO_LARGE},
-        {5, 3, RECTANGLE, WORDS, FLOATS, COUNTERS, BEAMNETTLE_BUFFER_TOO_SHORT},
-        {8, 3, RECTANGLE, WORDS - 1, FLOATS, COUNTERS, BEAMNETTLE_LIST_ENDS_EARLY},
-        {8, 3, (const int32_t[]){0, -1}, 2, FLOATS, COUNTERS, BEAMNETTLE_COUNT_OUT_OF_RANGE},
-        {8, 3, (const int32_t[]){0, 1, 1, 1048577, 0}, 5, FLOATS, COUNTERS, BEAMNETTLE_COORDINATE_OUT_OF_RANGE},
-        {8, 3, RECTANGLE, WORDS, FLOATS - 1, COUNTERS, BEAMNETTLE_BUFFER_TOO_SHORT},
-        {8, 3, RECTANGLE, WORDS, FLOATS, COUNTERS - 1, BEAMNETTLE_BUFFER_TOO_SHORT},
+        {8, 4, 4097, RECTANGLE, WORDS, FLOATS, COUNTERS, BEAMNETTLE_MASK_TOO_LARGE},
+        {5, 4, 3, RECTANGLE, WORDS, FLOATS, COUNTERS, BEAMNETTLE_BUFFER_TOO_SHORT},
+        {8, 4, 3, RECTANGLE, WORDS - 1, FLOATS, COUNTERS, BEAMNETTLE_LIST_ENDS_EARLY},
+        {8, 4, 3, (const int32_t[]){0}, 1, FLOATS, COUNTERS, BEAMNETTLE_LIST_ENDS_EARLY},
+        {8, 4, 3, (const int32_t[]){0, -1}, 2, FLOATS, COUNTERS, BEAMNETTLE_COUNT_OUT_OF_RANGE},
+        {8, 4, 3, (const int32_t[]){0, 1, 1, 1048577, 0}, 5, FLOATS, COUNTERS, BEAMNETTLE_COORDINATE_OUT_OF_RANGE},
+        {8, 4, 3, RECTANGLE, WORDS, FLOATS - 1, COUNTERS, BEAMNETTLE_BUFFER_TOO_SHORT},
+        {8, 4, 3, RECTANGLE, WORDS, FLOATS, COUNTERS - 1, BEAMNETTLE_BUFFER_TOO_SHORT},
+        /* too little ink: behind 3, and before the list and the scratch */
+        {8, 3, 4097, RECTANGLE, WORDS, FLOATS, COUNTERS, BEAMNETTLE_MASK_TOO_LARGE},
+        {8, 3, 3, RECTANGLE, WORDS, FLOATS, COUNTERS, BEAMNETTLE_BUFFER_TOO_SHORT},
+        {8, 0, 3, RECTANGLE, WORDS, FLOATS, COUNTERS, BEAMNETTLE_BUFFER_TOO_SHORT},
+        {8, 3, 3, (const int32_t[]){0}, 1, FLOATS, COUNTERS, BEAMNETTLE_BUFFER_TOO_SHORT},
+        {8, 3, 3, (const int32_t[]){0, -1}, 2, FLOATS, COUNTERS, BEAMNETTLE_BUFFER_TOO_SHORT},
+        {8, 3, 3, RECTANGLE, WORDS, FLOATS - 1, COUNTERS - 1, BEAMNETTLE_BUFFER_TOO_SHORT},
     };
     for (size_t i = 0; i < sizeof refused / sizeof *refused; i++) {
-        CHECK(draw(refused[i].mask, refused[i].width, refused[i].words, refused[i].length, refused[i].floats,
-                   refused[i].counters) == refused[i].number);
+        CHECK(draw(refused[i].mask, refused[i].numbers, refused[i].width, refused[i].words, refused[i].length,
+                   refused[i].floats, refused[i].counters) == refused[i].number);
         CHECK(left_as_it_was());
     }
-    /* an empty list: a mask of zeros */
-    CHECK(draw(6, 3, NULL, 0, 3, COUNTERS) == BEAMNETTLE_DONE);
-    CHECK(memcmp(lent.mask, (const uint8_t[6]){0}, 6) == 0 && memcmp(lent.mask + 6, before.mask + 6, 3) == 0);
 }
 
 static void drawing_at_corners(void) {
@@ -150,6 +201,7 @@ static void drawing_at_corners(void) {
         corner_x = CORNERS[i].x;
         corner_y = CORNERS[i].y;
         drawing();
+        refusing_drawings();
     }
 }
 
@@ -159,20 +211,27 @@ static void laying(void) {
     const uint8_t other[] = {9, 9, 255, 128, 127, 51}, laid[] = {0, 20, 15, 0, 25, 12, 77};
     uint8_t kept[sizeof mask];
     memcpy(kept, mask, sizeof mask);
-    CHECK(beamnettle_lay(mask, 6, 4097, 2, other, 6, 2, 3, -1, 1) == BEAMNETTLE_MASK_TOO_LARGE);
-    CHECK(beamnettle_lay(mask, 6, 3, 2, other, 6, 2, 4097, -1, 1) == BEAMNETTLE_MASK_TOO_LARGE);
-    CHECK(beamnettle_lay(mask, 5, 3, 2, other, 6, 2, 3, -1, 1) == BEAMNETTLE_BUFFER_TOO_SHORT);
-    CHECK(beamnettle_lay(mask, 6, 3, 2, other, 5, 2, 3, -1, 1) == BEAMNETTLE_BUFFER_TOO_SHORT);
-    CHECK(memcmp(mask, kept, sizeof mask) == 0);
-    CHECK(beamnettle_lay(mask, 7, 3, 2, other, 6, 2, 3, -1, 1) == BEAMNETTLE_DONE);
+    lend_ink();
+    CHECK(beamnettle_lay(mask, 6, ink, 4, 4097, 2, other, 6, 2, 3, -1, 1) == BEAMNETTLE_MASK_TOO_LARGE);
+    CHECK(beamnettle_lay(mask, 6, ink, 4, 3, 2, other, 6, 2, 4097, -1, 1) == BEAMNETTLE_MASK_TOO_LARGE);
+    CHECK(beamnettle_lay(mask, 6, ink, 3, 3, 2, other, 6, 2, 4097, -1, 1) == BEAMNETTLE_MASK_TOO_LARGE);
+    CHECK(beamnettle_lay(mask, 5, ink, 4, 3, 2, other, 6, 2, 3, -1, 1) == BEAMNETTLE_BUFFER_TOO_SHORT);
+    CHECK(beamnettle_lay(mask, 6, ink, 3, 3, 2, other, 6, 2, 3, -1, 1) == BEAMNETTLE_BUFFER_TOO_SHORT);
+    CHECK(beamnettle_lay(mask, 6, ink, 4, 3, 2, other, 5, 2, 3, -1, 1) == BEAMNETTLE_BUFFER_TOO_SHORT);
+    CHECK(memcmp(mask, kept, sizeof mask) == 0 && ink_left());
+    CHECK(beamnettle_lay(mask, 7, ink, 5, 3, 2, other, 6, 2, 3, -1, 1) == BEAMNETTLE_DONE);
     CHECK(memcmp(mask, laid, sizeof mask) == 0);
+    CHECK(INKED(1, 3, 1, 3) && prints(mask, 3, 2));
     /* a wider other mask: cell (column, row) meets (column + 1, row - 1), row 0 none */
     uint8_t open[] = {255, 255, 255, 255, 255, 255, 77};
     const uint8_t wider[] = {1, 2, 3, 4, 5, 6, 7, 8, 9}, met[] = {0, 0, 2, 3, 5, 6, 77};
-    CHECK(beamnettle_lay(open, 7, 2, 3, wider, 9, 3, 3, 1, -1) == BEAMNETTLE_DONE);
+    lend_ink();
+    CHECK(beamnettle_lay(open, 7, ink, 6, 2, 3, wider, 9, 3, 3, 1, -1) == BEAMNETTLE_DONE);
     CHECK(memcmp(open, met, sizeof open) == 0);
-    CHECK(beamnettle_lay(open, 7, 2, 3, wider, 9, 3, 3, 0, INT32_MIN) == BEAMNETTLE_DONE);
+    CHECK(INKED(0, 0, 0, 2, 0, 2) && prints(open, 2, 3));
+    CHECK(beamnettle_lay(open, 7, ink, 6, 2, 3, wider, 9, 3, 3, 0, INT32_MIN) == BEAMNETTLE_DONE);
     CHECK(memcmp(open, (const uint8_t[]){0, 0, 0, 0, 0, 0, 77}, sizeof open) == 0);
+    CHECK(INKED(0, 0, 0, 0, 0, 0));
 }
 
 /* ---- masks by corners */
@@ -182,10 +241,18 @@ static const uint8_t OWN[] = {100, 150, 200, 50, 60, 70, 77}, OTHER[] = {255, 12
 enum { FAR = BEAMNETTLE_LARGEST_CORNER_NUMBER };
 static uint8_t placed[sizeof OWN];
 
-/* The number for so many bytes, widths and corners. */
-static uint8_t lay_placed(size_t length, size_t other_length, size_t width, size_t other_width, const int32_t *c) {
+/* The number for so many bytes, numbers of ink, widths and corners. */
+static uint8_t lay_inked(size_t length, size_t numbers, size_t other_length, size_t width, size_t other_width,
+                         const int32_t *c) {
     memcpy(placed, OWN, sizeof OWN);
-    return beamnettle_lay_placed(placed, length, width, 2, c[0], c[1], OTHER, other_length, other_width, 3, c[2], c[3]);
+    lend_ink();
+    return beamnettle_lay_placed(placed, length, ink, numbers, width, 2, c[0], c[1], OTHER, other_length, other_width,
+                                 3, c[2], c[3]);
+}
+
+/* The same with enough ink. */
+static uint8_t lay_placed(size_t length, size_t other_length, size_t width, size_t other_width, const int32_t *c) {
+    return lay_inked(length, 4, other_length, width, other_width, c);
 }
 
 /* The same with all that is needed: own corner, then the other's. */
@@ -193,26 +260,30 @@ static uint8_t lay_placed(size_t length, size_t other_length, size_t width, size
 
 static int placed_is(const uint8_t *cells) { return memcmp(placed, cells, sizeof placed) == 0; }
 
+static int placed_left(void) { return placed_is(OWN) && ink_left(); }
+
 static void laying_placed(void) {
     /* cell (column, row) meets (column + own x - other x, row + own y - other y) */
     const struct {
         int32_t c[4];
         uint8_t cells[sizeof OWN];
+        uint16_t ink[4];
     } done[] = {
-        {{0, 0, 0, 0}, {100, 75, 0, 13, 60, 0, 77}},
-        {{1, 0, 0, 0}, {50, 0, 0, 50, 0, 0, 77}},
-        {{0, 0, 1, 0}, {0, 150, 100, 0, 15, 70, 77}},
-        {{0, 1, 0, 0}, {25, 150, 0, 10, 60, 0, 77}},
-        {{0, 0, 0, 1}, {0, 0, 0, 50, 30, 0, 77}},
-        {{-8, 41, -7, 40}, {0, 38, 200, 0, 12, 70, 77}},
-        {{FAR - 1, 1 - FAR, FAR, -FAR}, {0, 38, 200, 0, 12, 70, 77}},
-        {{-FAR, FAR, 1 - FAR, FAR - 1}, {0, 38, 200, 0, 12, 70, 77}},
-        {{FAR, 0, -FAR, 0}, {0, 0, 0, 0, 0, 0, 77}},
-        {{0, -FAR, 0, FAR}, {0, 0, 0, 0, 0, 0, 77}},
+        {{0, 0, 0, 0}, {100, 75, 0, 13, 60, 0, 77}, {0, 2, 0, 2}},
+        {{1, 0, 0, 0}, {50, 0, 0, 50, 0, 0, 77}, {0, 1, 0, 1}},
+        {{0, 0, 1, 0}, {0, 150, 100, 0, 15, 70, 77}, {1, 3, 1, 3}},
+        {{0, 1, 0, 0}, {25, 150, 0, 10, 60, 0, 77}, {0, 2, 0, 2}},
+        {{0, 0, 0, 1}, {0, 0, 0, 50, 30, 0, 77}, {0, 0, 0, 2}},
+        {{-8, 41, -7, 40}, {0, 38, 200, 0, 12, 70, 77}, {1, 3, 1, 3}},
+        {{FAR - 1, 1 - FAR, FAR, -FAR}, {0, 38, 200, 0, 12, 70, 77}, {1, 3, 1, 3}},
+        {{-FAR, FAR, 1 - FAR, FAR - 1}, {0, 38, 200, 0, 12, 70, 77}, {1, 3, 1, 3}},
+        {{FAR, 0, -FAR, 0}, {0, 0, 0, 0, 0, 0, 77}, {0, 0, 0, 0}},
+        {{0, -FAR, 0, FAR}, {0, 0, 0, 0, 0, 0, 77}, {0, 0, 0, 0}},
     };
     for (size_t i = 0; i < sizeof done / sizeof *done; i++) {
-        CHECK(lay_placed(7, 6, 3, 2, done[i].c) == BEAMNETTLE_DONE);
+        CHECK(lay_inked(7, 4 + i % 3, 6, 3, 2, done[i].c) == BEAMNETTLE_DONE);
         CHECK(placed_is(done[i].cells));
+        CHECK(inked(done[i].ink, 4) && prints(placed, 3, 2));
     }
 }
 
@@ -222,28 +293,33 @@ static void refusing_placed(void) {
         for (size_t i = 0; i < sizeof beyond / sizeof *beyond; i++) {
             int32_t c[4] = {0};
             c[place] = beyond[i];
-            CHECK(lay_placed(6, 6, 4097, 2, c) == BEAMNETTLE_MASK_TOO_LARGE && placed_is(OWN));
-            CHECK(lay_placed(6, 6, 3, 4097, c) == BEAMNETTLE_MASK_TOO_LARGE && placed_is(OWN));
-            CHECK(lay_placed(6, 6, 3, 2, c) == BEAMNETTLE_CORNER_OUT_OF_RANGE && placed_is(OWN));
-            CHECK(lay_placed(5, 6, 3, 2, c) == BEAMNETTLE_CORNER_OUT_OF_RANGE && placed_is(OWN));
-            CHECK(lay_placed(6, 5, 3, 2, c) == BEAMNETTLE_CORNER_OUT_OF_RANGE && placed_is(OWN));
+            CHECK(lay_placed(6, 6, 4097, 2, c) == BEAMNETTLE_MASK_TOO_LARGE && placed_left());
+            CHECK(lay_placed(6, 6, 3, 4097, c) == BEAMNETTLE_MASK_TOO_LARGE && placed_left());
+            CHECK(lay_placed(6, 6, 3, 2, c) == BEAMNETTLE_CORNER_OUT_OF_RANGE && placed_left());
+            CHECK(lay_placed(5, 6, 3, 2, c) == BEAMNETTLE_CORNER_OUT_OF_RANGE && placed_left());
+            CHECK(lay_placed(6, 5, 3, 2, c) == BEAMNETTLE_CORNER_OUT_OF_RANGE && placed_left());
+            CHECK(lay_inked(6, 3, 6, 3, 2, c) == BEAMNETTLE_CORNER_OUT_OF_RANGE && placed_left());
+            CHECK(lay_inked(6, 3, 6, 3, 4097, c) == BEAMNETTLE_MASK_TOO_LARGE && placed_left());
         }
         for (size_t i = 0; i < sizeof at_limit / sizeof *at_limit; i++) {
             int32_t c[4] = {0};
             c[place] = at_limit[i];
-            CHECK(lay_placed(6, 6, 3, 4097, c) == BEAMNETTLE_MASK_TOO_LARGE && placed_is(OWN));
-            CHECK(lay_placed(5, 6, 3, 2, c) == BEAMNETTLE_BUFFER_TOO_SHORT && placed_is(OWN));
-            CHECK(lay_placed(6, 5, 3, 2, c) == BEAMNETTLE_BUFFER_TOO_SHORT && placed_is(OWN));
+            CHECK(lay_placed(6, 6, 3, 4097, c) == BEAMNETTLE_MASK_TOO_LARGE && placed_left());
+            CHECK(lay_placed(5, 6, 3, 2, c) == BEAMNETTLE_BUFFER_TOO_SHORT && placed_left());
+            CHECK(lay_placed(6, 5, 3, 2, c) == BEAMNETTLE_BUFFER_TOO_SHORT && placed_left());
+            CHECK(lay_inked(6, 3, 6, 3, 2, c) == BEAMNETTLE_BUFFER_TOO_SHORT && placed_left());
             CHECK(lay_placed(6, 6, 3, 2, c) == BEAMNETTLE_DONE);
             CHECK(placed_is((const uint8_t[]){0, 0, 0, 0, 0, 0, 77}));
         }
     }
-    CHECK(beamnettle_lay_placed(placed, 6, 3, 4097, 0, 0, OTHER, 6, 2, 3, FAR + 1, 0) == BEAMNETTLE_MASK_TOO_LARGE);
-    CHECK(beamnettle_lay_placed(placed, 6, 3, 2, 0, -FAR - 1, OTHER, 6, 2, 4097, 0, 0) == BEAMNETTLE_MASK_TOO_LARGE);
-    CHECK(LAY_AT(INT32_MAX, 0, -1, 0) == BEAMNETTLE_CORNER_OUT_OF_RANGE && placed_is(OWN));
-    CHECK(LAY_AT(INT32_MIN, 0, 1, 0) == BEAMNETTLE_CORNER_OUT_OF_RANGE && placed_is(OWN));
-    CHECK(LAY_AT(0, INT32_MIN, 0, INT32_MIN) == BEAMNETTLE_CORNER_OUT_OF_RANGE && placed_is(OWN));
-    CHECK(LAY_AT(FAR + 1, 0, FAR + 1, 0) == BEAMNETTLE_CORNER_OUT_OF_RANGE && placed_is(OWN));
+    CHECK(beamnettle_lay_placed(placed, 6, ink, 4, 3, 4097, 0, 0, OTHER, 6, 2, 3, FAR + 1, 0) ==
+          BEAMNETTLE_MASK_TOO_LARGE);
+    CHECK(beamnettle_lay_placed(placed, 6, ink, 4, 3, 2, 0, -FAR - 1, OTHER, 6, 2, 4097, 0, 0) ==
+          BEAMNETTLE_MASK_TOO_LARGE);
+    CHECK(LAY_AT(INT32_MAX, 0, -1, 0) == BEAMNETTLE_CORNER_OUT_OF_RANGE && placed_left());
+    CHECK(LAY_AT(INT32_MIN, 0, 1, 0) == BEAMNETTLE_CORNER_OUT_OF_RANGE && placed_left());
+    CHECK(LAY_AT(0, INT32_MIN, 0, INT32_MIN) == BEAMNETTLE_CORNER_OUT_OF_RANGE && placed_left());
+    CHECK(LAY_AT(FAR + 1, 0, FAR + 1, 0) == BEAMNETTLE_CORNER_OUT_OF_RANGE && placed_left());
 }
 
 /* ---- PGM files */
@@ -300,10 +376,12 @@ static uint32_t write_pgm(size_t mask, size_t width, size_t height, size_t file)
     return beamnettle_write_pgm(CELLS, mask, width, height, pgm.file + PAST, file);
 }
 
-/* The number for a file, with so many bytes lent for the mask and numbers for the size and the corner. */
-static uint8_t read_pgm(const void *file, size_t length, size_t mask, size_t size, size_t corner) {
+/* The number for a file, with so many bytes lent for the mask and numbers for its ink, the size and the corner. */
+static uint8_t read_pgm(const void *file, size_t length, size_t mask, size_t numbers, size_t size, size_t corner) {
     lend_pgm();
-    return beamnettle_read_pgm(file, length, pgm.mask + PAST, mask, pgm.size + PAST, size, pgm.corner + PAST, corner);
+    lend_ink();
+    return beamnettle_read_pgm(file, length, pgm.mask + PAST, mask, ink, numbers, pgm.size + PAST, size,
+                               pgm.corner + PAST, corner);
 }
 
 static void writing_pgm(void) {
@@ -347,50 +425,148 @@ static void reading_pgm(void) {
     static const char spelled[] = "P5 \t\r\n000000003\n\n02\r0255 \a\0\377\n #";
     for (size_t past = 0; past < PAST; past++) {
         CHECK(write_pgm(CELL_COUNT, 3, 2, PICTURE_LENGTH) == WRITTEN);
-        CHECK(beamnettle_read_pgm(pgm.file + PAST, PICTURE_LENGTH, pgm.mask + PAST, CELL_COUNT + past, pgm.size + PAST,
-                                  2 + past, pgm.corner + PAST, 2 + (past + 1) % PAST) == BEAMNETTLE_DONE);
+        lend_ink();
+        CHECK(beamnettle_read_pgm(pgm.file + PAST, PICTURE_LENGTH, pgm.mask + PAST, CELL_COUNT + past, ink, 4 + past,
+                                  pgm.size + PAST, 2 + past, pgm.corner + PAST,
+                                  2 + (past + 1) % PAST) == BEAMNETTLE_DONE);
         CHECK(mask_holds(CELLS, CELL_COUNT) && size_holds(3, 2) && corner_holds(0, 0));
-        CHECK(file_holds(PICTURE, PICTURE_LENGTH));
-        CHECK(read_pgm(PGM(spelled), CELL_COUNT + past, 2 + past, 2 + past) == BEAMNETTLE_DONE);
-        CHECK(mask_holds(CELLS, CELL_COUNT) && size_holds(3, 2) && corner_holds(0, 0));
+        CHECK(file_holds(PICTURE, PICTURE_LENGTH) && INKED(0, 3, 0, 3) && prints(pgm.mask + PAST, 3, 2));
+        CHECK(read_pgm(PGM(spelled), CELL_COUNT + past, 4 + past, 2 + past, 2 + past) == BEAMNETTLE_DONE);
+        CHECK(mask_holds(CELLS, CELL_COUNT) && size_holds(3, 2) && corner_holds(0, 0) && INKED(0, 3, 0, 3));
     }
-    CHECK(read_pgm(PGM("P5\n1 1\n255\n\n"), 1, 2, 2) == BEAMNETTLE_DONE);
-    CHECK(mask_holds((const uint8_t *)"\n", 1) && size_holds(1, 1) && corner_holds(0, 0));
+    CHECK(read_pgm(PGM("P5\n1 1\n255\n\n"), 1, 2, 2, 2) == BEAMNETTLE_DONE);
+    CHECK(mask_holds((const uint8_t *)"\n", 1) && size_holds(1, 1) && corner_holds(0, 0) && INKED(0, 1));
 }
 
 static void refusing_pgm(void) {
     const struct {
         const char *file;
-        size_t length, mask, size, corner;
+        size_t length, mask, numbers, size, corner;
         uint8_t number;
     } refused[] = {
-        {PGM(""), 6, 2, 2, BEAMNETTLE_NOT_PGM},
-        {PGM("P2\n1 1\n255\n7"), 6, 2, 2, BEAMNETTLE_NOT_PGM},
-        {PGM("P51 1\n255\n\a"), 6, 2, 2, BEAMNETTLE_NOT_PGM},
-        {PGM("P5\n#\n1 1\n255\n\a"), 6, 2, 2, BEAMNETTLE_NOT_PGM},
-        {PGM("P5\n+1 1\n255\n\a"), 6, 2, 2, BEAMNETTLE_NOT_PGM},
-        {PGM("P5\n1\f1\n255\n\a"), 6, 2, 2, BEAMNETTLE_NOT_PGM},
-        {PGM("P5\n0000000001 1\n255\n\a"), 6, 2, 2, BEAMNETTLE_NOT_PGM},
-        {PGM("P5\n1 0\n254\n"), 0, 0, 0, BEAMNETTLE_NOT_PGM},
-        {PGM("P5\n1 1\n254"), 0, 0, 0, BEAMNETTLE_NOT_PGM},
-        {PGM("P5\n4097 1\n254\n"), 0, 0, 0, BEAMNETTLE_WRONG_DEPTH},
-        {PGM("P5\n1 1\n0\n\a"), 6, 2, 2, BEAMNETTLE_WRONG_DEPTH},
-        {PGM("P5\n4097 1\n255\n\a"), 0, 0, 0, BEAMNETTLE_MASK_TOO_LARGE},
-        {PGM("P5\n1 999999999\n255\n\a"), 6, 2, 2, BEAMNETTLE_MASK_TOO_LARGE},
-        {PGM("P5\n2 1\n255\n\a"), 0, 0, 0, BEAMNETTLE_WRONG_RASTER},
-        {PGM("P5\n1 1\n255\r\n\a"), 6, 2, 2, BEAMNETTLE_WRONG_RASTER},
-        {PGM("P5\n2 3\n255\n\a\a\a\a\a\a"), 5, 2, 2, BEAMNETTLE_BUFFER_TOO_SHORT},
-        {PGM("P5\n2 3\n255\n\a\a\a\a\a\a"), 6, 1, 2, BEAMNETTLE_BUFFER_TOO_SHORT},
-        {PGM("P5\n2 3\n255\n\a\a\a\a\a\a"), 6, 0, 2, BEAMNETTLE_BUFFER_TOO_SHORT},
-        {PGM("P5\n2 3\n255\n\a\a\a\a\a\a"), 6, 2, 1, BEAMNETTLE_BUFFER_TOO_SHORT},
-        {PGM("P5\n2 3\n255\n\a\a\a\a\a\a"), 6, 2, 0, BEAMNETTLE_BUFFER_TOO_SHORT},
+        {PGM(""), 6, 6, 2, 2, BEAMNETTLE_NOT_PGM},
+        {PGM("P2\n1 1\n255\n7"), 6, 6, 2, 2, BEAMNETTLE_NOT_PGM},
+        {PGM("P51 1\n255\n\a"), 6, 6, 2, 2, BEAMNETTLE_NOT_PGM},
+        {PGM("P5\n#\n1 1\n255\n\a"), 6, 6, 2, 2, BEAMNETTLE_NOT_PGM},
+        {PGM("P5\n+1 1\n255\n\a"), 6, 6, 2, 2, BEAMNETTLE_NOT_PGM},
+        {PGM("P5\n1\f1\n255\n\a"), 6, 6, 2, 2, BEAMNETTLE_NOT_PGM},
+        {PGM("P5\n0000000001 1\n255\n\a"), 6, 6, 2, 2, BEAMNETTLE_NOT_PGM},
+        {PGM("P5\n1 0\n254\n"), 0, 0, 0, 0, BEAMNETTLE_NOT_PGM},
+        {PGM("P5\n1 1\n254"), 0, 0, 0, 0, BEAMNETTLE_NOT_PGM},
+        {PGM("P5\n4097 1\n254\n"), 0, 0, 0, 0, BEAMNETTLE_WRONG_DEPTH},
+        {PGM("P5\n1 1\n0\n\a"), 6, 6, 2, 2, BEAMNETTLE_WRONG_DEPTH},
+        {PGM("P5\n4097 1\n255\n\a"), 0, 0, 0, 0, BEAMNETTLE_MASK_TOO_LARGE},
+        {PGM("P5\n1 999999999\n255\n\a"), 6, 6, 2, 2, BEAMNETTLE_MASK_TOO_LARGE},
+        {PGM("P5\n2 1\n255\n\a"), 0, 0, 0, 0, BEAMNETTLE_WRONG_RASTER},
+        {PGM("P5\n1 1\n255\r\n\a"), 6, 6, 2, 2, BEAMNETTLE_WRONG_RASTER},
+        {PGM("P5\n2 3\n255\n\a\a\a\a\a\a"), 5, 6, 2, 2, BEAMNETTLE_BUFFER_TOO_SHORT},
+        {PGM("P5\n2 3\n255\n\a\a\a\a\a\a"), 6, 6, 1, 2, BEAMNETTLE_BUFFER_TOO_SHORT},
+        {PGM("P5\n2 3\n255\n\a\a\a\a\a\a"), 6, 6, 0, 2, BEAMNETTLE_BUFFER_TOO_SHORT},
+        {PGM("P5\n2 3\n255\n\a\a\a\a\a\a"), 6, 6, 2, 1, BEAMNETTLE_BUFFER_TOO_SHORT},
+        {PGM("P5\n2 3\n255\n\a\a\a\a\a\a"), 6, 6, 2, 0, BEAMNETTLE_BUFFER_TOO_SHORT},
+        /* too little ink: behind all but itself */
+        {PGM("P5\n2 3\n255\n\a\a\a\a\a\a"), 6, 5, 2, 2, BEAMNETTLE_BUFFER_TOO_SHORT},
+        {PGM("P5\n2 3\n255\n\a\a\a\a\a\a"), 6, 0, 2, 2, BEAMNETTLE_BUFFER_TOO_SHORT},
+        {PGM("P5\n2 3\n255\n\a\a\a\a\a"), 6, 5, 2, 2, BEAMNETTLE_WRONG_RASTER},
+        {PGM("P5\n2 4097\n255\n"), 6, 5, 2, 2, BEAMNETTLE_MASK_TOO_LARGE},
+        {PGM("P5\n2 3\n254\n\a\a\a\a\a\a"), 6, 5, 2, 2, BEAMNETTLE_WRONG_DEPTH},
+        {PGM("P5\n2 0\n255\n"), 6, 5, 2, 2, BEAMNETTLE_NOT_PGM},
     };
     for (size_t i = 0; i < sizeof refused / sizeof *refused; i++) {
-        CHECK(read_pgm(refused[i].file, refused[i].length, refused[i].mask, refused[i].size, refused[i].corner) ==
-              refused[i].number);
-        CHECK(mask_holds(CELLS, 0) && size_holds(1000 + PAST, 1001 + PAST));
+        CHECK(read_pgm(refused[i].file, refused[i].length, refused[i].mask, refused[i].numbers, refused[i].size,
+                       refused[i].corner) == refused[i].number);
+        CHECK(mask_holds(CELLS, 0) && size_holds(1000 + PAST, 1001 + PAST) && ink_left());
         CHECK(corner_holds(-2000 - PAST, -2001 - PAST));
     }
+}
+
+/* ---- ink of rows that are odd */
+
+/* A file read into these bytes, with just enough ink. */
+static uint8_t read_rows(const void *file, size_t length, uint8_t *mask, size_t cells, size_t rows) {
+    size_t size[2];
+    int32_t corner[2];
+    lend_ink();
+    return beamnettle_read_pgm(file, length, mask, cells, ink, BEAMNETTLE_INK_PER_ROW * rows, size, 2, corner, 2);
+}
+
+static void inking_rows(void) {
+    static uint8_t mask[2 * 4096], file[14 + 2 * 4096] = "P5\n4096 2\n255\n";
+    CHECK(read_rows(PGM("P5\n3 4\n255\n\0\0\0\5\0\0\0\0\5\5\0\a"), mask, 12, 4) == BEAMNETTLE_DONE);
+    CHECK(INKED(0, 0, 0, 1, 2, 3, 0, 3) && prints(mask, 3, 4));
+    /* the last cell alone, and all of them */
+    file[14 + 4095] = 1;
+    memset(file + 14 + 4096, 200, 4096);
+    CHECK(read_rows(file, sizeof file, mask, sizeof mask, 2) == BEAMNETTLE_DONE);
+    CHECK(INKED(4095, 4096, 0, 4096));
+}
+
+/* A drawing of up to five columns, five rows and twenty points, over the ink as it is. */
+static uint8_t drawn[25];
+
+static uint8_t draw_small(size_t width, size_t height, size_t numbers, const int32_t *words, size_t length) {
+    static float floats[5 + 15 * 20];
+    static uint64_t counters[7];
+    return beamnettle_draw(drawn, width * height, ink, numbers, width, height, 0, 0, words, length, floats,
+                           sizeof floats / sizeof *floats, counters, sizeof counters / sizeof *counters);
+}
+
+static void inking_drawings(void) {
+    /* a sliver whose byte is 0 is no ink */
+    const int32_t sliver[] = {0, 1, 3, 0, 0, 1, 0, 0, 1};
+    lend_ink();
+    CHECK(draw_small(1, 1, 2, sliver, 9) == BEAMNETTLE_DONE && drawn[0] == 0 && INKED(0, 0));
+    /* one group inks column 3, the next column 0 */
+    const int32_t groups[] = {0, 1, 4, 768, 0, 1024, 0, 1024, 256, 768, 256, 0, 1, 4, 0, 0, 256, 0, 256, 256, 0, 256};
+    lend_ink();
+    CHECK(draw_small(5, 1, 2, groups, 22) == BEAMNETTLE_DONE);
+    CHECK(memcmp(drawn, (const uint8_t[]){255, 0, 0, 255, 0}, 5) == 0 && INKED(0, 4) && prints(drawn, 5, 1));
+    /* a smaller mask over a larger one leaves the numbers behind its own */
+    const int32_t column[] = {0, 1, 4, 256, 0, 512, 0, 512, 768, 256, 768};
+    lend_ink();
+    CHECK(draw_small(2, 3, 7, column, 11) == BEAMNETTLE_DONE && INKED(1, 2, 1, 2, 1, 2));
+    CHECK(draw_small(2, 2, 7, NULL, 0) == BEAMNETTLE_DONE && INKED(0, 0, 0, 0, 1, 2));
+    CHECK(draw_small(2, 2, 3, column, 11) == BEAMNETTLE_BUFFER_TOO_SHORT && INKED(0, 0, 0, 0, 1, 2));
+}
+
+static void inking_layings(void) {
+    /* laying on makes a row shorter: (1 * 127 + 127) / 255 is 0 */
+    const uint8_t other[] = {255, 127};
+    uint8_t mask[] = {255, 1}, again[] = {255, 1}, rows[] = {9, 9, 9, 9};
+    lend_ink();
+    CHECK(beamnettle_lay(mask, 2, ink, 2, 2, 1, other, 2, 2, 1, 0, 0) == BEAMNETTLE_DONE);
+    CHECK(mask[0] == 255 && mask[1] == 0 && INKED(0, 1) && prints(mask, 2, 1));
+    lend_ink();
+    CHECK(beamnettle_lay_placed(again, 2, ink, 2, 2, 1, 5, -4, other, 2, 2, 1, 5, -4) == BEAMNETTLE_DONE);
+    CHECK(again[0] == 255 && again[1] == 0 && INKED(0, 1));
+    /* a row that meets no row of the other is blank */
+    lend_ink();
+    CHECK(beamnettle_lay(rows, 4, ink, 4, 2, 2, other, 2, 2, 1, 0, 0) == BEAMNETTLE_DONE);
+    CHECK(INKED(0, 2, 0, 0) && prints(rows, 2, 2));
+    /* ink that lies at an odd number of 16-bit numbers */
+    lend_ink();
+    ink[0] = 5;
+    CHECK(beamnettle_lay(rows, 4, ink + 1, 4, 2, 2, other, 2, 2, 1, 1, 0) == BEAMNETTLE_DONE);
+    CHECK(rows[0] == 4 && rows[1] == 0 && INKED(5, 0, 1, 0, 0));
+}
+
+/* No columns, and three rows, which have ink all the same: six numbers, all of which become 0. */
+static void inking_no_columns(void) {
+    uint64_t counters[4];
+    const uint8_t other[] = {255};
+    lend_ink();
+    CHECK(beamnettle_draw(NULL, 0, ink, 5, 0, 3, 1, 2, NULL, 0, NULL, 0, counters, 4) == BEAMNETTLE_BUFFER_TOO_SHORT);
+    CHECK(beamnettle_lay(NULL, 0, ink, 5, 0, 3, other, 1, 1, 1, 0, 0) == BEAMNETTLE_BUFFER_TOO_SHORT);
+    CHECK(beamnettle_lay_placed(NULL, 0, ink, 5, 0, 3, 1, 2, other, 1, 1, 1, 1, 2) == BEAMNETTLE_BUFFER_TOO_SHORT);
+    CHECK(ink_left());
+    CHECK(beamnettle_draw(NULL, 0, ink, 6, 0, 3, 1, 2, NULL, 0, NULL, 0, counters, 4) == BEAMNETTLE_DONE);
+    CHECK(INKED(0, 0, 0, 0, 0, 0));
+    lend_ink();
+    CHECK(beamnettle_lay(NULL, 0, ink, 9, 0, 3, other, 1, 1, 1, 0, 0) == BEAMNETTLE_DONE);
+    CHECK(INKED(0, 0, 0, 0, 0, 0));
+    lend_ink();
+    CHECK(beamnettle_lay_placed(NULL, 0, ink, 7, 0, 3, 1, 2, other, 1, 1, 1, 1, 2) == BEAMNETTLE_DONE);
+    CHECK(INKED(0, 0, 0, 0, 0, 0));
 }
 
 /* ---- boxes */
@@ -888,19 +1064,26 @@ static void touching(void) {
 
 /* ---- a length of 0 with no address, as of an empty vector */
 static void nothing(void) {
-    uint64_t counter = 5;
-    CHECK(beamnettle_draw(NULL, 0, 0, 0, 1, 2, NULL, 0, NULL, 0, &counter, 1) == BEAMNETTLE_DONE && counter == 0);
-    CHECK(beamnettle_draw(NULL, 0, 0, 0, 1, 2, NULL, 0, NULL, 0, NULL, 0) == BEAMNETTLE_BUFFER_TOO_SHORT);
-    CHECK(beamnettle_lay(NULL, 0, 0, 7, NULL, 0, 5, 0, 3, 2) == BEAMNETTLE_DONE);
-    CHECK(beamnettle_lay_placed(NULL, 0, 0, 7, 1, 2, NULL, 0, 5, 0, 3, 4) == BEAMNETTLE_DONE);
-    CHECK(beamnettle_lay_placed(NULL, 0, 0, 7, 1, 2, NULL, 0, 5, 0, 3, FAR + 1) == BEAMNETTLE_CORNER_OUT_OF_RANGE);
-    CHECK(beamnettle_lay_placed(NULL, 0, 1, 1, 1, 2, NULL, 0, 0, 0, 3, 4) == BEAMNETTLE_BUFFER_TOO_SHORT);
-    CHECK(beamnettle_lay_placed(NULL, 0, 0, 0, 1, 2, NULL, 0, 1, 1, 3, 4) == BEAMNETTLE_BUFFER_TOO_SHORT);
+    uint64_t counters[] = {5, 6};
+    CHECK(beamnettle_draw(NULL, 0, NULL, 0, 0, 0, 1, 2, NULL, 0, NULL, 0, counters, 1) == BEAMNETTLE_DONE);
+    CHECK(counters[0] == 0 && counters[1] == 6);
+    CHECK(beamnettle_draw(NULL, 0, NULL, 0, 0, 0, 1, 2, NULL, 0, NULL, 0, NULL, 0) == BEAMNETTLE_BUFFER_TOO_SHORT);
+    CHECK(beamnettle_draw(NULL, 0, NULL, 0, 0, 1, 1, 2, NULL, 0, NULL, 0, counters, 2) == BEAMNETTLE_BUFFER_TOO_SHORT);
+    CHECK(counters[1] == 6);
+    CHECK(beamnettle_lay(NULL, 0, NULL, 0, 7, 0, NULL, 0, 5, 0, 3, 2) == BEAMNETTLE_DONE);
+    CHECK(beamnettle_lay(NULL, 0, NULL, 0, 0, 7, NULL, 0, 5, 0, 3, 2) == BEAMNETTLE_BUFFER_TOO_SHORT);
+    CHECK(beamnettle_lay_placed(NULL, 0, NULL, 0, 7, 0, 1, 2, NULL, 0, 5, 0, 3, 4) == BEAMNETTLE_DONE);
+    CHECK(beamnettle_lay_placed(NULL, 0, NULL, 0, 0, 7, 1, 2, NULL, 0, 5, 0, 3, 4) == BEAMNETTLE_BUFFER_TOO_SHORT);
+    CHECK(beamnettle_lay_placed(NULL, 0, NULL, 0, 0, 7, 1, 2, NULL, 0, 5, 0, 3, FAR + 1) ==
+          BEAMNETTLE_CORNER_OUT_OF_RANGE);
+    CHECK(beamnettle_lay_placed(NULL, 0, NULL, 0, 1, 1, 1, 2, NULL, 0, 0, 0, 3, 4) == BEAMNETTLE_BUFFER_TOO_SHORT);
+    CHECK(beamnettle_lay_placed(NULL, 0, NULL, 0, 0, 0, 1, 2, NULL, 0, 1, 1, 3, 4) == BEAMNETTLE_BUFFER_TOO_SHORT);
     CHECK(beamnettle_write_pgm(NULL, 0, 0, 0, NULL, 0) == BEAMNETTLE_NOT_PGM);
     CHECK(beamnettle_write_pgm(NULL, 0, 1, 1, NULL, 0) == BEAMNETTLE_BUFFER_TOO_SHORT);
     CHECK(beamnettle_write_pgm(CELLS, 1, 1, 1, NULL, 0) == BEAMNETTLE_BUFFER_TOO_SHORT);
-    CHECK(beamnettle_read_pgm(NULL, 0, NULL, 0, NULL, 0, NULL, 0) == BEAMNETTLE_NOT_PGM);
-    CHECK(beamnettle_read_pgm(PICTURE, PICTURE_LENGTH, NULL, 0, NULL, 0, NULL, 0) == BEAMNETTLE_BUFFER_TOO_SHORT);
+    CHECK(beamnettle_read_pgm(NULL, 0, NULL, 0, NULL, 0, NULL, 0, NULL, 0) == BEAMNETTLE_NOT_PGM);
+    CHECK(beamnettle_read_pgm(PICTURE, PICTURE_LENGTH, NULL, 0, NULL, 0, NULL, 0, NULL, 0) ==
+          BEAMNETTLE_BUFFER_TOO_SHORT);
     RETURNS(BEAMNETTLE_NONE, beamnettle_fit(NULL, 0, NULL, 0, out, BOX));
     CHECK(beamnettle_fit(NULL, 0, NULL, 0, NULL, 0) == BEAMNETTLE_BUFFER_TOO_SHORT);
     RETURNS(BEAMNETTLE_NONE, beamnettle_fit_outline(NULL, 0, NULL, 0, out, OUTLINE));
@@ -934,6 +1117,10 @@ int main(void) {
     writing_pgm();
     reading_pgm();
     refusing_pgm();
+    inking_rows();
+    inking_drawings();
+    inking_layings();
+    inking_no_columns();
     fitting();
     rounding();
     cutting();

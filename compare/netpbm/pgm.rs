@@ -1,4 +1,4 @@
-//! PGM files by the sentences of document 02's changes 4 and 8. femtovg has none: this reader and this writer
+//! PGM files by the sentences of document 02's changes 4, 8 and 9. femtovg has none: this reader and this writer
 //! are written for the comparison, and have nothing of Beamnettle's.
 use femtovg::calls::Refused;
 
@@ -77,10 +77,11 @@ fn fields(file: &[u8]) -> Option<([usize; 3], &[u8])> {
 }
 
 /// Reads a file into a mask, its width and height into two numbers, and its corner into two: a mask that is
-/// read stands at (0, 0).
+/// read stands at (0, 0). So many numbers are lent for its ink, which a scan of the mask finds.
 pub fn read(
     file: &[u8],
     mask: &mut [u8],
+    ink: usize,
     size: &mut [usize],
     corner: &mut [i32],
 ) -> Result<(), Refused> {
@@ -90,6 +91,9 @@ pub fn read(
     }
     if raster.len() != cells([width, height])? {
         return Err(WRONG_RASTER);
+    }
+    if ink < 2 * height {
+        return Err(TOO_SHORT);
     }
     let mask = mask.get_mut(..raster.len()).ok_or(TOO_SHORT)?;
     let size = size.get_mut(..2).ok_or(TOO_SHORT)?;
@@ -107,7 +111,7 @@ mod tests {
     /// What a file of one cell at most is read to, with one byte lent and one past it.
     fn one(file: &[u8]) -> Result<u8, Refused> {
         let (mut mask, mut size, mut corner) = ([99; 2], [77; 3], [-55; 3]);
-        let answer = read(file, &mut mask[..1], &mut size, &mut corner);
+        let answer = read(file, &mut mask[..1], 2, &mut size, &mut corner);
         assert!(mask[1] == 99 && size[2] == 77 && corner[2] == -55);
         let (sides, place) = match answer {
             Ok(()) => ([1, 1], [0, 0]),
@@ -171,10 +175,11 @@ mod tests {
         assert!(one(b"P5\n2 1\n255\n\x07") == Err(15));
         assert!(one(b"P5\n2 1\n255\n\x07\x08") == Err(4));
         let file = b"P5\n1 1\n255\n\x07";
-        assert!(read(file, &mut [], &mut [0; 2], &mut [0; 2]) == Err(4));
-        assert!(read(file, &mut [0], &mut [0], &mut [0; 2]) == Err(4));
-        assert!(read(file, &mut [0], &mut [0; 2], &mut [0]) == Err(4));
-        assert!(read(&file[..11], &mut [], &mut [], &mut []) == Err(15));
+        assert!(read(file, &mut [], 2, &mut [0; 2], &mut [0; 2]) == Err(4));
+        assert!(read(file, &mut [0], 1, &mut [0; 2], &mut [0; 2]) == Err(4));
+        assert!(read(file, &mut [0], 2, &mut [0], &mut [0; 2]) == Err(4));
+        assert!(read(file, &mut [0], 2, &mut [0; 2], &mut [0]) == Err(4));
+        assert!(read(&file[..11], &mut [], 0, &mut [], &mut []) == Err(15));
     }
 
     #[test]
@@ -203,8 +208,9 @@ mod tests {
         let (mut size, mut corner) = ([0; 2], [9; 2]);
         assert!(write(&mask, [4096; 2], &mut file) == Ok(16_777_233));
         let written = &file[..16_777_233];
-        assert!(read(written, &mut back, &mut size, &mut corner) == Ok(()));
+        assert!(read(written, &mut back, 8191, &mut size, &mut corner) == Err(4));
+        assert!(read(written, &mut back, 8192, &mut size, &mut corner) == Ok(()));
         assert!(back == mask && size == [4096; 2] && corner == [0; 2]);
-        assert!(read(&file, &mut back, &mut size, &mut corner) == Err(15));
+        assert!(read(&file, &mut back, 8192, &mut size, &mut corner) == Err(15));
     }
 }

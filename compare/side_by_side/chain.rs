@@ -1,11 +1,12 @@
-//! A chain: drawings and layings-on, on two mask buffers lent throughout. It is put to both
+//! A chain: drawings and layings-on, on two masks and their ink, lent throughout. It is put to both
 //! engines and, where it is small enough, to the reckoner.
 use crate::{
-    drawings,
-    lent::{changed, Lent, Scratch},
+    drawings, ink,
+    lent::{Lent, Scratch},
     library,
     random::Random,
     reckoner::{Closeness, Reckoner},
+    scan::scan,
 };
 use femtovg::calls::{self, Drawing, Refused};
 use std::{fmt, rc::Rc};
@@ -36,8 +37,9 @@ pub enum Step {
 
 #[derive(Clone)]
 pub struct Chain {
-    /// what the buffers hold at first
+    /// what the masks and their ink hold at first
     pub masks: [Rc<[u8]>; 2],
+    pub ink: [Rc<[u16]>; 2],
     pub steps: Vec<Step>,
     pub reckoned: bool,
     /// whether the reckoner follows it to its end, where its maker knows
@@ -53,6 +55,32 @@ impl Step {
             Step::Draw { .. } => "draw",
             Step::Lay { .. } => "lay",
             Step::LayPlaced { .. } => PLACED,
+        }
+    }
+
+    /// The mask that it writes, and its size.
+    fn writes(&self) -> (usize, [usize; 2]) {
+        match self {
+            Step::Draw { mask, size, .. } => (*mask, *size),
+            Step::Lay { sizes, .. } | Step::LayPlaced { sizes, .. } => (0, sizes[0]),
+        }
+    }
+
+    /// Its answer where the masks have so many bytes and their ink so many numbers.
+    pub fn answer(&self, masks: [usize; 2], ink: [usize; 2]) -> Result<(), Refused> {
+        let [run, next] = masks;
+        match self {
+            Step::Draw {
+                mask,
+                size,
+                words,
+                scratch: [floats, counters],
+                ..
+            } => Drawing::check(*size, words, [masks[*mask], ink[*mask], *floats, *counters]),
+            Step::Lay { sizes, .. } => calls::check_laying(*sizes, [run, ink[0], next]),
+            Step::LayPlaced { sizes, corners } => {
+                calls::check_placed(*sizes, *corners, [run, ink[0], next])
+            }
         }
     }
 }
@@ -108,29 +136,41 @@ fn write_buffer(f: &mut fmt::Formatter, name: &str, bytes: &[u8]) -> fmt::Result
     }
 }
 
+/// Ink of one number; a line says where others stood there.
+fn write_ink(f: &mut fmt::Formatter, name: &str, ink: &[u16]) -> fmt::Result {
+    let number = ink.first().unwrap_or(&0);
+    if ink.iter().any(|other| other != number) {
+        writeln!(f, "# several numbers stood in this ink")?;
+    }
+    writeln!(f, "ink {name} {} {number}", ink.len())
+}
+
 /// The chain as a call list.
 impl fmt::Display for Chain {
     fn fmt(&self, f: &mut fmt::Formatter) -> fmt::Result {
         for (name, bytes) in NAMES.iter().zip(&self.masks) {
             write_buffer(f, name, bytes)?;
         }
+        for (name, ink) in NAMES.iter().zip(&self.ink) {
+            write_ink(f, name, ink)?;
+        }
         self.steps
             .iter()
             .try_for_each(|step| writeln!(f, "{step}"))?;
-        write!(f, "show run\nshow next")
+        write!(f, "show run\nshow_ink run\nshow next\nshow_ink next")
     }
 }
 
-/// Buffers that are plain or shorter.
-fn simpler(bytes: &[u8]) -> Vec<Rc<[u8]>> {
-    let length = bytes.len();
-    let mut simpler: Vec<Rc<[u8]>> = Vec::new();
-    if bytes.iter().any(|byte| *byte != bytes[0]) {
-        simpler.push(vec![200; length].into());
+/// Buffers that hold one number alone or are shorter.
+fn simpler<T: Copy + PartialEq>(held: &[T], plain: T) -> Vec<Rc<[T]>> {
+    let length = held.len();
+    let mut simpler: Vec<Rc<[T]>> = Vec::new();
+    if held.iter().any(|number| *number != held[0]) {
+        simpler.push(vec![plain; length].into());
     }
     if length > 0 {
-        simpler.push(bytes[..length / 2].into());
-        simpler.push(bytes[..length - (length / 16).max(1)].into());
+        simpler.push(held[..length / 2].into());
+        simpler.push(held[..length - (length / 16).max(1)].into());
     }
     simpler
 }
@@ -149,9 +189,12 @@ impl Chain {
         let mut smaller: Vec<Chain> = steps
             .map(|at| self.changed(|chain| drop(chain.steps.remove(at))))
             .collect();
-        for (mask, bytes) in self.masks.iter().enumerate() {
-            for bytes in simpler(bytes) {
+        for mask in [0, 1] {
+            for bytes in simpler(&self.masks[mask], 200) {
                 smaller.push(self.changed(|chain| chain.masks[mask] = bytes));
+            }
+            for ink in simpler(&self.ink[mask], 7) {
+                smaller.push(self.changed(|chain| chain.ink[mask] = ink));
             }
         }
         for (at, step) in self.steps.iter().enumerate() {
@@ -171,13 +214,146 @@ impl Chain {
     }
 }
 
-/// A chain under way: both engines' buffers, and the reckoner.
-struct Running<'a> {
-    new: [Lent<u8>; 2],
-    old: [Vec<u8>; 2],
+/// The library's masks and their ink.
+struct New {
+    masks: [Lent<u8>; 2],
+    ink: [Lent<u16>; 2],
+}
+
+/// The library's number, and whether the scratch is what it should be after that.
+type Answered = (u8, Result<(), String>);
+
+impl New {
+    fn holding(masks: &[Rc<[u8]>; 2], ink: &[Rc<[u16]>; 2], random: &mut Random) -> Self {
+        Self {
+            masks: masks
+                .each_ref()
+                .map(|bytes| Lent::holding(bytes, || random.bits() as u8)),
+            ink: ink
+                .each_ref()
+                .map(|numbers| Lent::holding(numbers, || random.bits() as u16)),
+        }
+    }
+
+    /// As much memory, which holds rubbish.
+    fn another(&self, random: &mut Random) -> Self {
+        let (masks, ink) = (self.masks(), self.ink());
+        Self {
+            masks: masks.map(|bytes| Lent::new(bytes.len(), || random.bits() as u8)),
+            ink: ink.map(|numbers| Lent::new(numbers.len(), || random.bits() as u16)),
+        }
+    }
+
+    fn masks(&self) -> [&[u8]; 2] {
+        self.masks.each_ref().map(Lent::lent)
+    }
+
+    fn ink(&self) -> [&[u16]; 2] {
+        self.ink.each_ref().map(Lent::lent)
+    }
+
+    fn draw(
+        &mut self,
+        mask: usize,
+        size: [usize; 2],
+        corner: [i32; 2],
+        words: &[i32],
+        mut scratch: Scratch,
+    ) -> Answered {
+        let number = library::draw(
+            self.masks[mask].lend(),
+            self.ink[mask].lend(),
+            size,
+            corner,
+            words,
+            scratch.floats.lend(),
+            scratch.counters.lend(),
+        );
+        (number, scratch.check(number == library::DONE))
+    }
+
+    fn call(&mut self, step: &Step, random: &mut Random) -> Answered {
+        let ([run, next], [ink, _]) = (&mut self.masks, &mut self.ink);
+        match step {
+            Step::Draw {
+                mask,
+                size,
+                corner,
+                words,
+                scratch,
+            } => {
+                let scratch = Scratch::new(*scratch, random);
+                self.draw(*mask, *size, *corner, words, scratch)
+            }
+            Step::Lay {
+                sizes: [size, met],
+                offset,
+            } => {
+                let (run, ink) = (run.lend(), ink.lend());
+                let number = library::lay(run, ink, *size, next.lent(), *met, *offset);
+                (number, Ok(()))
+            }
+            Step::LayPlaced {
+                sizes: [size, met],
+                corners: [corner, place],
+            } => {
+                let (run, ink, next) = (run.lend(), ink.lend(), next.lent());
+                let number = library::lay_placed(run, ink, *size, *corner, next, *met, *place);
+                (number, Ok(()))
+            }
+        }
+    }
+}
+
+/// The Rust's masks, and the ink that a scan of them finds.
+struct Old<'a> {
+    masks: [Vec<u8>; 2],
+    ink: [Vec<u16>; 2],
     drawing: &'a mut Drawing,
+}
+
+impl Old<'_> {
+    fn call(&mut self, step: &Step) -> Result<(), Refused> {
+        let ([run, next], ink) = (&mut self.masks, self.ink[0].len());
+        match step {
+            Step::Draw {
+                mask, size, words, ..
+            } => {
+                let lengths = self.masks.each_ref().map(Vec::len);
+                step.answer(lengths, self.ink.each_ref().map(Vec::len))?;
+                let cells = self.drawing.cells(*size, words.to_vec());
+                self.masks[*mask][..cells.len()].copy_from_slice(cells);
+            }
+            Step::Lay {
+                sizes: [size, met],
+                offset,
+            } => calls::lay(run, ink, *size, next, *met, *offset)?,
+            Step::LayPlaced {
+                sizes: [size, met],
+                corners: [corner, place],
+            } => calls::lay_placed(run, ink, *size, *corner, next, *met, *place)?,
+        }
+        let (mask, size) = step.writes();
+        scan(&self.masks[mask], size, &mut self.ink[mask]);
+        Ok(())
+    }
+}
+
+/// What is seen of chains: how close bytes come to their shares, their ink, and how many were run again.
+#[derive(Default)]
+pub struct Seen {
+    pub closeness: Closeness,
+    pub ink: ink::Counts,
+    pub again: u64,
+}
+
+/// A chain under way: both engines, and the reckoner.
+struct Running<'a> {
+    new: New,
+    old: Old<'a>,
     reckoner: Option<Reckoner>,
     random: &'a mut Random,
+    seen: &'a mut Seen,
 }
 
 /// The number of both answers.
@@ -190,78 +366,43 @@ fn agreed(new: u8, old: Result<(), Refused>, whose: &str) -> Result<u8, String> 
 }
 
 impl Running<'_> {
-    fn draw(
-        &mut self,
-        mask: usize,
-        size: [usize; 2],
-        corner: [i32; 2],
-        words: &[i32],
-        lent: [usize; 2],
-    ) -> Result<u8, String> {
-        let mut scratch = Scratch::new(lent, self.random);
-        let new = library::draw(
-            self.new[mask].lend(),
-            size,
-            corner,
-            words,
-            scratch.floats.lend(),
-            scratch.counters.lend(),
-        );
-        let buffer = &mut self.old[mask];
-        let old = Drawing::check(size, words, [buffer.len(), lent[0], lent[1]]);
-        if old.is_ok() {
-            let cells = self.drawing.cells(size, words.to_vec());
-            buffer[..cells.len()].copy_from_slice(cells);
-        }
-        let number = agreed(new, old, "the Rust")?;
-        scratch.check(number == library::DONE)?;
-        Ok(number)
-    }
-
-    fn lay(&mut self, sizes: [[usize; 2]; 2], offset: [i32; 2]) -> Result<u8, String> {
-        let [run, next] = &mut self.new;
-        let new = library::lay(run.lend(), sizes[0], next.lent(), sizes[1], offset);
-        let [run, next] = &mut self.old;
-        let old = calls::lay(run, sizes[0], next, sizes[1], offset);
-        agreed(new, old, "the Rust")
-    }
-
-    fn lay_placed(&mut self, sizes: [[usize; 2]; 2], corners: [[i32; 2]; 2]) -> Result<u8, String> {
-        let ([size, met], [corner, place]) = (sizes, corners);
-        let [run, next] = &mut self.new;
-        let new = library::lay_placed(run.lend(), size, corner, next.lent(), met, place);
-        let [run, next] = &mut self.old;
-        let old = calls::lay_placed(run, size, corner, next, met, place);
-        agreed(new, old, "the Rust")
-    }
-
-    /// Whether both engines' buffers are the same and the guards are kept.
+    /// Whether both engines' masks and ink are the same and the guards are kept.
     fn same(&self) -> Result<(), String> {
-        for ((name, new), old) in NAMES.iter().zip(&self.new).zip(&self.old) {
-            let new_bytes = new.lent();
-            if let Some(at) = (0..old.len()).find(|at| new_bytes[*at] != old[*at]) {
-                let (new, old) = (new_bytes[at], old[at]);
-                return Err(format!("byte {at} of {name}: {new}, the Rust {old}"));
-            }
-            if !new.guarded(u8::eq) {
-                return Err(changed());
-            }
+        let Self { new, old, .. } = self;
+        for (at, name) in NAMES.iter().enumerate() {
+            new.masks[at].holds(&format!("the mask {name}"), &old.masks[at])?;
+            new.ink[at].holds(&format!("the ink of {name}"), &old.ink[at])?;
+        }
+        Ok(())
+    }
+
+    /// Counts the rows that a done call wrote, and a call that is refused for its ink alone.
+    fn count_ink(&mut self, step: &Step, number: u8) -> Result<(), String> {
+        let (masks, ink) = (self.new.masks(), self.new.ink());
+        let (mask, size) = step.writes();
+        if number == library::DONE {
+            return self.seen.ink.done(masks[mask], size, ink[mask]);
+        }
+        let lengths = masks.map(|bytes| bytes.len());
+        if number == library::TOO_SHORT && step.answer(lengths, [usize::MAX; 2]).is_ok() {
+            self.seen.ink.refused();
         }
         Ok(())
     }
 
     /// The same call put to the reckoner, and all cells held to what it has.
-    fn reckon(&mut self, step: &Step, number: u8, closeness: &mut Closeness) -> Result<(), String> {
+    fn reckon(&mut self, step: &Step, number: u8) -> Result<(), String> {
         let Some(reckoner) = &mut self.reckoner else {
             return Ok(());
         };
-        let [run, next] = &self.new;
-        let buffers = [run.lent(), next.lent()];
-        let answer = reckoned(reckoner, step, buffers.map(|bytes| bytes.len()));
+        let (buffers, ink) = (self.new.masks(), self.new.ink());
+        let lengths = buffers.map(|bytes| bytes.len());
+        let answer = reckoned(reckoner, step, lengths, ink.map(|numbers| numbers.len()));
         agreed(number, answer, "the reckoner")?;
         if answer.is_err() || !reckoner.follows() {
             return Ok(());
         }
+        let closeness = &mut self.seen.closeness;
         match step {
             Step::Draw { .. } => closeness.drawings += 1,
             Step::Lay { .. } => closeness.layings += 1,
@@ -273,36 +414,82 @@ impl Running<'_> {
         reckoner.check(buffers, closeness)
     }
 
-    fn step(&mut self, step: &Step, closeness: &mut Closeness) -> Result<u8, String> {
-        let number = match step {
-            Step::Draw {
-                mask,
-                size,
-                corner,
-                words,
-                scratch,
-            } => self.draw(*mask, *size, *corner, words, *scratch)?,
-            Step::Lay { sizes, offset } => self.lay(*sizes, *offset)?,
-            Step::LayPlaced { sizes, corners } => self.lay_placed(*sizes, *corners)?,
-        };
+    fn step(&mut self, step: &Step) -> Result<u8, String> {
+        let (new, scratch) = self.new.call(step, self.random);
+        let number = agreed(new, self.old.call(step), "the Rust")?;
+        scratch?;
         self.same()?;
-        self.reckon(step, number, closeness)?;
+        self.count_ink(step, number)?;
+        self.reckon(step, number)?;
         Ok(number)
     }
 
-    /// Whether the reckoner has followed the chain to its end just where it should.
-    fn end(&self, meant: Option<bool>) -> Result<(), String> {
+    /// Whether the reckoner has followed the chain to its end just where it should. Where it has, the ink is held to
+    /// the masks, and the chain run again.
+    fn end(&mut self, chain: &Chain, numbers: &[u8]) -> Result<(), String> {
         let follows = self.reckoner.as_ref().map(Reckoner::follows);
-        match (follows, meant) {
+        match (follows, chain.meant) {
             (Some(true), Some(false)) => Err("the reckoner follows, and should not".into()),
             (Some(false), Some(true)) => Err("the reckoner does not follow, and should".into()),
+            (Some(true), _) => {
+                self.inked()?;
+                self.again(&chain.steps, numbers)
+            }
             _ => Ok(()),
         }
     }
+
+    /// The sizes that the reckoner holds.
+    fn sizes(&self) -> [[usize; 2]; 2] {
+        let sizes = self.reckoner.as_ref().map(Reckoner::sizes);
+        sizes.unwrap_or_default()
+    }
+
+    /// After the list each row of the sizes held has the ink that a scan of it finds.
+    fn inked(&self) -> Result<(), String> {
+        let (masks, ink) = (self.new.masks(), self.new.ink());
+        for (at, size) in self.sizes().into_iter().enumerate() {
+            let mut found = vec![0; 2 * size[1]];
+            scan(masks[at], size, &mut found);
+            if !ink[at].starts_with(&found) {
+                let name = NAMES[at];
+                return Err(format!("a scan of {name} finds another ink after the list"));
+            }
+        }
+        Ok(())
+    }
+
+    /// The list on other memory: its answers, and the cells and the ink that it leaves, are the same.
+    fn again(&mut self, steps: &[Step], numbers: &[u8]) -> Result<(), String> {
+        let mut other = self.new.another(self.random);
+        for (step, number) in steps.iter().zip(numbers) {
+            let (again, scratch) = other.call(step, self.random);
+            scratch?;
+            if again != *number {
+                return Err(format!("on other memory number {again}, before {number}"));
+            }
+        }
+        for (at, [width, height]) in self.sizes().into_iter().enumerate() {
+            let cells = |new: &New| new.masks()[at][..width * height].to_vec();
+            let ink = |new: &New| new.ink()[at][..2 * height].to_vec();
+            if cells(&other) != cells(&self.new) || ink(&other) != ink(&self.new) {
+                let name = NAMES[at];
+                return Err(format!("{name} has other cells or ink on other memory"));
+            }
+        }
+        self.seen.again += 1;
+        Ok(())
+    }
 }
 
-/// The reckoner's answer to a call, with masks of so many bytes.
-fn reckoned(reckoner: &mut Reckoner, step: &Step, lengths: [usize; 2]) -> Result<(), Refused> {
+/// The reckoner's answer to a call, with masks of so many bytes and ink of so many numbers.
+fn reckoned(
+    reckoner: &mut Reckoner,
+    step: &Step,
+    masks: [usize; 2],
+    ink: [usize; 2],
+) -> Result<(), Refused> {
+    let lent = [masks[0], ink[0], masks[1]];
     match step {
         Step::Draw {
             mask,
@@ -311,11 +498,11 @@ fn reckoned(reckoner: &mut Reckoner, step: &Step, lengths: [usize; 2]) -> Result
             words,
             scratch: [floats, counters],
         } => {
-            let lent = [lengths[*mask], *floats, *counters];
+            let lent = [masks[*mask], ink[*mask], *floats, *counters];
             reckoner.draw(*mask, *size, *corner, words, lent)
         }
-        Step::Lay { sizes, offset } => reckoner.lay(*sizes, *offset, lengths),
-        Step::LayPlaced { sizes, corners } => reckoner.lay_placed(*sizes, *corners, lengths),
+        Step::Lay { sizes, offset } => reckoner.lay(*sizes, *offset, lent),
+        Step::LayPlaced { sizes, corners } => reckoner.lay_placed(*sizes, *corners, lent),
     }
 }
 
@@ -324,25 +511,26 @@ pub fn compare(
     chain: &Chain,
     drawing: &mut Drawing,
     random: &mut Random,
-    closeness: &mut Closeness,
+    seen: &mut Seen,
 ) -> Result<Vec<u8>, String> {
-    let new = chain
-        .masks
-        .each_ref()
-        .map(|bytes| Lent::holding(bytes, || random.bits() as u8));
-    let mut running = Running {
-        new,
-        old: chain.masks.each_ref().map(|bytes| bytes.to_vec()),
+    let old = Old {
+        masks: chain.masks.each_ref().map(|bytes| bytes.to_vec()),
+        ink: chain.ink.each_ref().map(|numbers| numbers.to_vec()),
         drawing,
+    };
+    let mut running = Running {
+        new: New::holding(&chain.masks, &chain.ink, random),
+        old,
         reckoner: chain.reckoned.then(Reckoner::default),
         random,
+        seen,
     };
     let mut answers = Vec::new();
     for (at, step) in chain.steps.iter().enumerate() {
-        let answer = running.step(step, closeness);
+        let answer = running.step(step);
         answers.push(answer.map_err(|found| format!("call {at} of the chain: {found}"))?);
     }
-    running.end(chain.meant)?;
+    running.end(chain, &answers)?;
     Ok(answers)
 }
 
@@ -366,6 +554,72 @@ mod tests {
     }
 
     #[test]
+    fn lines_of_ink() {
+        let chain = Chain {
+            masks: [vec![9; 2].into(), [].into()],
+            ink: [vec![7; 3].into(), vec![7, 8].into()],
+            steps: vec![],
+            reckoned: false,
+            meant: None,
+        };
+        let lines = "bufn run 2 9\nbuf next -\nink run 3 7\n# several numbers stood in this ink\nink next 2 7\n";
+        let shown = "show run\nshow_ink run\nshow next\nshow_ink next";
+        assert!(chain.to_string() == [lines, shown].concat());
+    }
+
+    /// A drawing of three cells by two, of this width and these words, with enough scratch.
+    fn drawing(width: usize, words: &[i32], mask: usize) -> Step {
+        Step::Draw {
+            mask,
+            size: [width, 2],
+            corner: [0, 0],
+            words: words.to_vec(),
+            scratch: [63, 4],
+        }
+    }
+
+    #[test]
+    fn short_ink_in_its_order() {
+        let draw = |width, words: &[i32], ink| drawing(width, words, 1).answer([0, 6], [0, ink]);
+        assert!(draw(4097, &[0], 0) == Err(3));
+        assert!(draw(3, &[0], 3) == Err(4));
+        assert!(draw(3, &[0], 4) == Err(5));
+        assert!(draw(3, &[], 4) == Ok(()));
+        let (sizes, offset) = ([[3, 2], [2, 3]], [0, 0]);
+        let lay = Step::Lay { sizes, offset };
+        assert!(lay.answer([6, 6], [3, 9]) == Err(4));
+        assert!(lay.answer([6, 6], [4, 0]) == Ok(()));
+        let placed = |height, x, ink| {
+            let (sizes, corners) = ([[3, 2], [2, height]], [[0, 0], [x, 0]]);
+            Step::LayPlaced { sizes, corners }.answer([6, 6], [ink, 0])
+        };
+        assert!(placed(4097, 1_048_577, 3) == Err(3));
+        assert!(placed(3, 1_048_577, 3) == Err(16));
+        assert!(placed(3, 1_048_576, 3) == Err(4));
+        assert!(placed(3, 1_048_576, 4) == Ok(()));
+    }
+
+    #[test]
+    fn scanned_after_done_calls() {
+        let mut old = Old {
+            masks: [vec![255, 1, 9], vec![255, 127]],
+            ink: [vec![7; 3], vec![7; 4]],
+            drawing: &mut Drawing::default(),
+        };
+        let lay = |height| Step::Lay {
+            sizes: [[2, height], [2, 1]],
+            offset: [0, 0],
+        };
+        assert!(old.call(&lay(1)) == Ok(()));
+        assert!(old.masks[0] == [255, 0, 9] && old.ink == [vec![0, 1, 7], vec![7; 4]]);
+        assert!(old.call(&lay(2)) == Err(4));
+        assert!(old.call(&drawing(1, &[], 1)) == Ok(()));
+        assert!(old.ink == [vec![0, 1, 7], vec![0; 4]]);
+        assert!(old.call(&drawing(3, &[], 1)) == Err(4));
+        assert!(old.ink == [vec![0, 1, 7], vec![0; 4]]);
+    }
+
+    #[test]
     fn own_corner_minus_the_others() {
         for (corner, other, cells) in [
             ([1, 0], [0, 0], [10, 0, 0]),
@@ -374,7 +628,7 @@ mod tests {
             ([-7, 9], [-6, 9], [0, 20, 30]),
         ] {
             let mut mask = [10, 20, 30];
-            let answer = calls::lay_placed(&mut mask, [3, 1], corner, &[255; 2], [2, 1], other);
+            let answer = calls::lay_placed(&mut mask, 2, [3, 1], corner, &[255; 2], [2, 1], other);
             assert!(answer == Ok(()) && mask == cells);
         }
     }
@@ -382,7 +636,7 @@ mod tests {
     /// The Rust's answer for masks of one cell at corners, and what becomes of the cell.
     fn one_cell(corner: [i32; 2], other: [i32; 2]) -> (Result<(), Refused>, u8) {
         let mut mask = [200];
-        let answer = calls::lay_placed(&mut mask, [1, 1], corner, &[128], [1, 1], other);
+        let answer = calls::lay_placed(&mut mask, 2, [1, 1], corner, &[128], [1, 1], other);
         (answer, mask[0])
     }
 

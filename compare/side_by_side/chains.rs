@@ -2,9 +2,9 @@
 use crate::{
     chain::{Chain, Step},
     drawings::{self, LIMIT},
+    ink,
     random::Random,
 };
-use femtovg::calls::Drawing;
 use std::rc::Rc;
 
 /// Bytes enough for a long mask.
@@ -18,6 +18,8 @@ struct Maker<'a> {
     /// whether layings are given sizes and corners that are not those held
     loose: bool,
     lengths: [usize; 2],
+    /// how many numbers are lent for the masks' ink
+    ink: [usize; 2],
     held: [[usize; 2]; 2],
     /// the corners held
     corners: [[i32; 2]; 2],
@@ -64,6 +66,18 @@ fn many_bytes(random: &mut Random) -> usize {
     }
 }
 
+/// How many numbers are lent for the ink of a mask of so many bytes: mostly enough for all rows that it may have, at
+/// times fewer.
+fn ink_numbers(random: &mut Random, bytes: usize) -> usize {
+    let most = 2 * bytes.min(4097);
+    match random.below(32) {
+        0 => random.below(most + 1),
+        1..=8 => 11 + random.below(15),
+        9 => 79 + random.below(3),
+        _ => most + random.below(4),
+    }
+}
+
 /// Corner numbers that turn a laying-on by corners away.
 const OUT_OF_RANGE: [i32; 6] = [
     -LIMIT - 1,
@@ -80,7 +94,28 @@ fn oversize(random: &mut Random) -> usize {
 }
 
 impl Maker<'_> {
+    /// Whether a mask's ink is enough for few rows only.
+    fn few_inked(&self, mask: usize) -> bool {
+        self.ink[mask] < 100
+    }
+
+    /// As many rows as a mask's ink has numbers for, and so many more, and few columns.
+    fn inked_rows(&mut self, mask: usize, more: usize) -> [usize; 2] {
+        let height = self.ink[mask].min(8192) / 2 + more;
+        let most = self.lengths[mask].checked_div(height).unwrap_or(9);
+        let width = match most.min(12) {
+            0 => 0,
+            _ if self.random.one_in(12) => 0,
+            most => 1 + self.random.below(most),
+        };
+        [width, height]
+    }
+
     fn size(&mut self, mask: usize) -> [usize; 2] {
+        if self.few_inked(mask) && self.random.one_in(6) {
+            let more = self.random.below(2);
+            return self.inked_rows(mask, more);
+        }
         let other = self.held[1 - mask];
         let mut size = if other != [0, 0] && self.random.one_in(2) {
             other
@@ -197,9 +232,13 @@ impl Maker<'_> {
         if self.loose && self.random.one_in(2) {
             sizes = [0, 1].map(|mask| self.fitting(mask));
         }
-        if self.random.one_in(8) {
-            let mask = self.random.below(2);
-            sizes[mask] = self.unfitting(mask);
+        match self.random.below(24) {
+            0..=2 => {
+                let mask = self.random.below(2);
+                sizes[mask] = self.unfitting(mask);
+            }
+            3..=9 if self.few_inked(0) => sizes[0] = self.inked_rows(0, 1),
+            _ => {}
         }
         sizes
     }
@@ -244,28 +283,8 @@ impl Maker<'_> {
         }
     }
 
-    /// Whether these sizes turn a laying-on away.
-    fn too_large(&self, sizes: &[[usize; 2]; 2]) -> bool {
-        sizes.iter().zip(self.lengths).any(|(size, length)| {
-            size.iter().any(|side| *side > 4096) || size[0] * size[1] > length
-        })
-    }
-
     fn refused(&self, step: &Step) -> bool {
-        match step {
-            Step::Draw {
-                mask,
-                size,
-                words,
-                scratch: [floats, counters],
-                ..
-            } => Drawing::check(*size, words, [self.lengths[*mask], *floats, *counters]).is_err(),
-            Step::Lay { sizes, .. } => self.too_large(sizes),
-            Step::LayPlaced { sizes, corners } => {
-                let mut numbers = corners.iter().flatten();
-                numbers.any(|number| *number < -LIMIT || LIMIT < *number) || self.too_large(sizes)
-            }
-        }
+        step.answer(self.lengths, self.ink).is_err()
     }
 
     /// Keeps the size and the corner of a done drawing, and whether a done laying-on is given what is held.
@@ -324,12 +343,15 @@ pub fn chain(random: &mut Random, few: bool) -> Chain {
         }
     });
     let masks = lengths.map(|length| rubbish(random, length));
+    let ink = lengths.map(|bytes| ink_numbers(random, bytes));
+    let held_ink = ink.map(|numbers| ink::rubbish(random, numbers).into());
     let loose = random.one_in(8);
     let mut maker = Maker {
         random,
         few,
         loose,
         lengths,
+        ink,
         held: [[0, 0]; 2],
         corners: [[0, 0]; 2],
         drawn: [None, None],
@@ -338,6 +360,7 @@ pub fn chain(random: &mut Random, few: bool) -> Chain {
     let steps = maker.steps();
     Chain {
         masks,
+        ink: held_ink,
         steps,
         reckoned: few,
         meant: Some(maker.meant),
@@ -380,18 +403,21 @@ pub fn swept_layings() -> impl Iterator<Item = Laid> {
     small_layings().chain(tall_layings())
 }
 
-/// A chain of one laying-on, of rubbish on rubbish, with up to two bytes behind each mask.
+/// A chain of one laying-on, of rubbish on rubbish, with up to two bytes behind each mask, and numbers behind the ink.
 pub fn laying((sizes, offset): Laid, random: &mut Random) -> Chain {
     let masks = sizes.map(|[width, height]| {
         let past = random.below(3);
         rubbish(random, width * height + past)
     });
-    one(masks, Step::Lay { sizes, offset })
+    let ink = 2 * sizes[0][1] + random.below(3);
+    one(masks, ink, Step::Lay { sizes, offset }, random)
 }
 
-fn one(masks: [Rc<[u8]>; 2], step: Step) -> Chain {
+/// A chain of one call, with so many numbers for the running mask's ink.
+pub fn one(masks: [Rc<[u8]>; 2], ink: usize, step: Step, random: &mut Random) -> Chain {
     Chain {
         masks,
+        ink: [ink::rubbish(random, ink).into(), [].into()],
         steps: vec![step],
         reckoned: false,
         meant: None,
@@ -400,8 +426,9 @@ fn one(masks: [Rc<[u8]>; 2], step: Step) -> Chain {
 
 // ---- the sweep by corners
 
-/// The sizes and the corners of a laying-on by corners, and which masks are short by one byte.
-pub type Placed = ([[usize; 2]; 2], [[i32; 2]; 2], [bool; 2]);
+/// The sizes and the corners of a laying-on by corners, and whether the mask and the other are short by one byte and
+/// the ink by one number.
+pub type Placed = ([[usize; 2]; 2], [[i32; 2]; 2], [bool; 3]);
 
 /// Every two sizes with sides up to here are laid on each other by corners.
 const PLACED_SIDE: usize = 2;
@@ -417,7 +444,7 @@ fn small_placed() -> impl Iterator<Item = Placed> {
         let own = apart().flat_map(move |x| apart().map(move |y| [place[0] + x, place[1] + y]));
         own.map(move |own| [own, place])
     };
-    sizes.flat_map(move |sizes| corners().map(move |corners| (sizes, corners, [false, false])))
+    sizes.flat_map(move |sizes| corners().map(move |corners| (sizes, corners, [false; 3])))
 }
 
 /// Corner numbers at the limits, one inside and one beyond them, and at the ends of 32 bits.
@@ -438,12 +465,16 @@ const ENDS: [i32; 10] = [
 fn far_placed() -> impl Iterator<Item = Placed> {
     let sizes = [[3, 2], [2, 3]];
     let given = [
-        (sizes, [false, false]),
-        (sizes, [true, false]),
-        (sizes, [false, true]),
-        (sizes, [true, true]),
-        ([[3, 4097], [2, 3]], [true, false]),
-        ([[3, 2], [4097, 3]], [false, true]),
+        (sizes, [false, false, false]),
+        (sizes, [true, false, false]),
+        (sizes, [false, true, false]),
+        (sizes, [true, true, false]),
+        (sizes, [false, false, true]),
+        (sizes, [true, true, true]),
+        ([[3, 4097], [2, 3]], [true, false, false]),
+        ([[3, 4097], [2, 3]], [false, false, true]),
+        ([[3, 2], [4097, 3]], [false, true, false]),
+        ([[3, 2], [4097, 3]], [false, false, true]),
     ];
     let pairs = || ENDS.iter().flat_map(|own| ENDS.map(|other| [*own, other]));
     let across = pairs().map(|[own, other]| [[own, 1], [other, 0]]);
@@ -463,7 +494,13 @@ pub fn placed((sizes, corners, short): Placed, random: &mut Random) -> Chain {
         let cells = width * height;
         rubbish(random, if short[mask] { cells - 1 } else { cells + past })
     });
-    one(masks, Step::LayPlaced { sizes, corners })
+    let (numbers, past) = (2 * sizes[0][1], random.below(3));
+    let ink = if short[2] {
+        numbers - 1
+    } else {
+        numbers + past
+    };
+    one(masks, ink, Step::LayPlaced { sizes, corners }, random)
 }
 
 #[cfg(test)]
@@ -478,9 +515,10 @@ mod tests {
         assert!(tall_layings().count() == 54);
         let random = &mut Random::new(1);
         assert!(small_layings().all(|laid| {
-            let Chain { masks, .. } = laying(laid, random);
+            let Chain { masks, ink, .. } = laying(laid, random);
             let mut sizes = laid.0.iter().zip(&masks);
             sizes.all(|([width, height], mask)| (0..3).contains(&(mask.len() - width * height)))
+                && (0..3).contains(&(ink[0].len() - 2 * laid.0[0][1]))
         }));
     }
 
@@ -488,11 +526,11 @@ mod tests {
     fn swept_by_corners() {
         let (sides, apart) = (PLACED_SIDE + 1, 2 * PLACED_SIDE + 3);
         assert!(small_placed().count() == sides.pow(4) * apart.pow(2));
-        assert!(far_placed().count() == 2 * ENDS.len().pow(2) * 6);
+        assert!(far_placed().count() == 2 * ENDS.len().pow(2) * 10);
         for (mask, axis) in [(0, 0), (0, 1), (1, 0), (1, 1)] {
             for number in ENDS {
                 let at = |(_, corners, _): &Placed| corners[mask][axis] == number;
-                assert!(far_placed().filter(at).count() >= 6 * ENDS.len());
+                assert!(far_placed().filter(at).count() >= 10 * ENDS.len());
             }
         }
     }
@@ -525,5 +563,29 @@ mod tests {
         let meant = chains.iter().filter(|chain| chain.meant == Some(true));
         let meant = meant.count();
         assert!(meant > 2000 && chains.len() - meant > 150);
+    }
+
+    /// Of the calls of chains, some are refused for ink alone, drawings and layings-on; most masks have enough.
+    #[test]
+    fn short_ink_in_chains() {
+        let random = &mut Random::new(1);
+        let chains: Vec<Chain> = (0..4000).map(|at| chain(random, at % 2 == 0)).collect();
+        let lengths = |chain: &Chain| {
+            let masks = chain.masks.each_ref().map(|mask| mask.len());
+            (masks, chain.ink.each_ref().map(|ink| ink.len()))
+        };
+        let (mut all, mut alone) = ([0; 2], [0; 2]);
+        for chain in &chains {
+            let (masks, ink) = lengths(chain);
+            for step in &chain.steps {
+                let drawing = matches!(step, Step::Draw { .. }) as usize;
+                let done = step.answer(masks, ink).is_ok();
+                all[drawing] += 1;
+                alone[drawing] += (!done && step.answer(masks, [usize::MAX; 2]).is_ok()) as usize;
+            }
+        }
+        for at in [0, 1] {
+            assert!(alone[at] > all[at] / 25 && alone[at] < all[at] / 5);
+        }
     }
 }

@@ -1,6 +1,7 @@
 //! Random and hostile drawings.
 use crate::{
     chain::{Chain, Step},
+    ink,
     random::Random,
 };
 
@@ -235,7 +236,7 @@ pub fn drawing(random: &mut Random) -> Chain {
         spoil(random, &mut words);
     }
     let [width, height] = size.map(|cells| cells.min(4097));
-    let length = lent(random, width * height);
+    let (length, numbers) = (lent(random, width * height), ink::lent(random, height));
     let draw = Step::Draw {
         mask: 0,
         size,
@@ -248,6 +249,7 @@ pub fn drawing(random: &mut Random) -> Chain {
             (0..length).map(|_| random.bits() as u8).collect(),
             [].into(),
         ],
+        ink: [ink::rubbish(random, numbers).into(), [].into()],
         steps: vec![draw],
         reckoned: false,
         meant: None,

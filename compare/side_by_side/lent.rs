@@ -1,5 +1,6 @@
 //! Lent memory, between guards.
 use crate::random::Random;
+use std::fmt::Display;
 
 /// A lent buffer between guards, and what all of it held before.
 pub struct Lent<T> {
@@ -56,6 +57,20 @@ impl<T: Copy> Lent<T> {
     /// Whether the guards are as they were.
     pub fn guarded(&self, same: impl Fn(&T, &T) -> bool) -> bool {
         self.kept(self.length, same)
+    }
+}
+
+impl<T: Copy + PartialEq + Display> Lent<T> {
+    /// Whether what is lent holds what is expected, and the guards are as they were.
+    pub fn holds(&self, name: &str, expected: &[T]) -> Result<(), String> {
+        let mut pairs = self.lent().iter().zip(expected).enumerate();
+        if let Some((at, (new, old))) = pairs.find(|(_, (new, old))| new != old) {
+            return Err(format!("{name}, place {at}: {new}, expected {old}"));
+        }
+        if !self.guarded(T::eq) {
+            return Err(changed());
+        }
+        Ok(())
     }
 }
 

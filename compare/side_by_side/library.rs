@@ -20,6 +20,8 @@ mod c {
         pub fn beamnettle_draw(
             mask: *mut u8,
             mask_length: usize,
+            ink: *mut u16,
+            ink_length: usize,
             width: usize,
             height: usize,
             x: i32,
@@ -34,6 +36,8 @@ mod c {
         pub fn beamnettle_lay(
             mask: *mut u8,
             mask_length: usize,
+            ink: *mut u16,
+            ink_length: usize,
             width: usize,
             height: usize,
             other: *const u8,
@@ -46,6 +50,8 @@ mod c {
         pub fn beamnettle_lay_placed(
             mask: *mut u8,
             mask_length: usize,
+            ink: *mut u16,
+            ink_length: usize,
             width: usize,
             height: usize,
             x: i32,
@@ -70,6 +76,8 @@ mod c {
             file_length: usize,
             mask: *mut u8,
             mask_length: usize,
+            ink: *mut u16,
+            ink_length: usize,
             size: *mut usize,
             size_length: usize,
             corner: *mut i32,
@@ -222,6 +230,7 @@ mod c {
 
 pub fn draw(
     mask: &mut [u8],
+    ink: &mut [u16],
     size: [usize; 2],
     corner: [i32; 2],
     words: &[i32],
@@ -233,6 +242,8 @@ pub fn draw(
         c::beamnettle_draw(
             mask.as_mut_ptr(),
             mask.len(),
+            ink.as_mut_ptr(),
+            ink.len(),
             width,
             height,
             corner[0],
@@ -249,6 +260,7 @@ pub fn draw(
 
 pub fn lay(
     mask: &mut [u8],
+    ink: &mut [u16],
     size: [usize; 2],
     other: &[u8],
     other_size: [usize; 2],
@@ -258,6 +270,8 @@ pub fn lay(
         c::beamnettle_lay(
             mask.as_mut_ptr(),
             mask.len(),
+            ink.as_mut_ptr(),
+            ink.len(),
             size[0],
             size[1],
             other.as_ptr(),
@@ -272,6 +286,7 @@ pub fn lay(
 
 pub fn lay_placed(
     mask: &mut [u8],
+    ink: &mut [u16],
     size: [usize; 2],
     corner: [i32; 2],
     other: &[u8],
@@ -282,6 +297,8 @@ pub fn lay_placed(
         c::beamnettle_lay_placed(
             mask.as_mut_ptr(),
             mask.len(),
+            ink.as_mut_ptr(),
+            ink.len(),
             size[0],
             size[1],
             corner[0],
@@ -310,13 +327,21 @@ pub fn write_pgm(mask: &[u8], size: [usize; 2], file: &mut [u8]) -> u32 {
     }
 }
 
-pub fn read_pgm(file: &[u8], mask: &mut [u8], size: &mut [usize], corner: &mut [i32]) -> u8 {
+pub fn read_pgm(
+    file: &[u8],
+    mask: &mut [u8],
+    ink: &mut [u16],
+    size: &mut [usize],
+    corner: &mut [i32],
+) -> u8 {
     unsafe {
         c::beamnettle_read_pgm(
             file.as_ptr(),
             file.len(),
             mask.as_mut_ptr(),
             mask.len(),
+            ink.as_mut_ptr(),
+            ink.len(),
             size.as_mut_ptr(),
             size.len(),
             corner.as_mut_ptr(),

@@ -1,7 +1,7 @@
 //! Puts random and hostile calls to Beamnettle and to femtovg's Rust, and compares every answer:
 //! numbers, masks byte by byte, floats by their bits (every NaN one value), lent memory and guards.
-//! Small chains of drawings and layings-on are also held to document 01's reckoner. PGM files, which
-//! femtovg has not, are held to a second reader and writer.
+//! Small chains of drawings and layings-on are also held to document 01's reckoner. PGM files and ink, which
+//! femtovg has not, are held to a second reader and writer and to a plain scan of the Rust's masks.
 //! side_by_side [SEED] [SECONDS] [curves]: with `curves` every call is one on an outline with curves.
 mod boxes;
 mod call;
@@ -11,6 +11,8 @@ mod curves;
 mod drawings;
 mod fraction;
 mod holds;
+mod ink;
+mod ink_sweep;
 mod lending;
 mod lent;
 mod library;
@@ -22,12 +24,14 @@ mod random;
 mod reckoner;
 #[path = "../outlines/ring.rs"]
 mod ring;
+#[path = "../ink/scan.rs"]
+mod scan;
 mod scissors;
 mod touches;
 mod whole;
 
 use call::Call;
-use chain::Chain;
+use chain::{Chain, Seen};
 use femtovg::calls::Drawing;
 use random::Random;
 use reckoner::Closeness;
@@ -60,7 +64,7 @@ struct Counts {
     touches: touches::Counts,
     curves: curves::Counts,
     files: pgm::Counts,
-    closeness: Closeness,
+    seen: Seen,
 }
 
 impl Counts {
@@ -85,7 +89,7 @@ impl Counts {
         let numbers = self.answers.get(chain::PLACED).unwrap_or(&none);
         let all: u64 = numbers.values().sum();
         let done = numbers.get(&library::DONE).unwrap_or(&0);
-        let reckoned = self.closeness.placed;
+        let reckoned = self.seen.closeness.placed;
         println!("layings-on by corners: {all}, done {done}, reckoned {reckoned}");
     }
 
@@ -114,9 +118,11 @@ impl Counts {
             layings,
             cells,
             ..
-        } = self.closeness;
-        println!("chains: {}", self.chains);
+        } = self.seen.closeness;
+        let (chains, again) = (self.chains, self.seen.again);
+        println!("chains: {chains}, run again on other memory {again}");
         self.show_placed();
+        self.seen.ink.show();
         self.touches.show();
         self.curves.show();
         self.files.show();
@@ -131,8 +137,7 @@ fn shrunk(mut chain: Chain, mut difference: String) -> (Chain, String) {
     'again: loop {
         for smaller in chain.smaller() {
             let (random, mut drawing) = (&mut Random::new(1), Drawing::default());
-            let compared =
-                chain::compare(&smaller, &mut drawing, random, &mut Closeness::default());
+            let compared = chain::compare(&smaller, &mut drawing, random, &mut Seen::default());
             if let Err(found) = compared {
                 (chain, difference) = (smaller, found);
                 continue 'again;
@@ -154,7 +159,7 @@ fn put_box_call(call: Call, random: &mut Random, counts: &mut Counts) {
 }
 
 fn put_pgm_call(call: pgm::Call, random: &mut Random, counts: &mut Counts) {
-    match call.compare(random) {
+    match call.compare(random, &mut counts.seen.ink) {
         Ok(number) => {
             counts.files.count(&call, number);
             counts.answer(call.kind(), number);
@@ -164,7 +169,7 @@ fn put_pgm_call(call: pgm::Call, random: &mut Random, counts: &mut Counts) {
 }
 
 fn put_chain(chain: Chain, drawing: &mut Drawing, random: &mut Random, counts: &mut Counts) {
-    match chain::compare(&chain, drawing, random, &mut counts.closeness) {
+    match chain::compare(&chain, drawing, random, &mut counts.seen) {
         Ok(numbers) => {
             let steps = chain.steps.iter().zip(numbers);
             steps.for_each(|(step, number)| counts.answer(step.kind(), number));
@@ -178,7 +183,7 @@ fn put_chain(chain: Chain, drawing: &mut Drawing, random: &mut Random, counts: &
 
 /// The calls that every run has: each byte of small PGM headers at every value, each width and height;
 /// small masks of all sizes, and the tallest, laid on each other; small masks laid on each other by corners,
-/// and corners at their limits.
+/// and corners at their limits; then those about ink.
 fn put_sweep(drawing: &mut Drawing, random: &mut Random, counts: &mut Counts) {
     for call in pgm_files::headers().chain(pgm_files::sizes()) {
         if counts.differ < MOST_DIFFERENCES {
@@ -193,6 +198,30 @@ fn put_sweep(drawing: &mut Drawing, random: &mut Random, counts: &mut Counts) {
     for placed in chains::swept_placed() {
         if counts.differ < MOST_DIFFERENCES {
             put_chain(chains::placed(placed, random), drawing, random, counts);
+        }
+    }
+    put_ink_sweep(drawing, random, counts);
+}
+
+/// Odd rows, read, laid on and drawn, and every number of ink about as many as are needed.
+fn put_ink_sweep(drawing: &mut Drawing, random: &mut Random, counts: &mut Counts) {
+    for rows in ink_sweep::rows() {
+        if counts.differ < MOST_DIFFERENCES {
+            put_pgm_call(rows.read(random), random, counts);
+            put_chain(rows.laid(random), drawing, random, counts);
+            for chain in rows.drawn(random) {
+                put_chain(chain, drawing, random, counts);
+            }
+        }
+    }
+    for call in ink_sweep::files() {
+        if counts.differ < MOST_DIFFERENCES {
+            put_pgm_call(call, random, counts);
+        }
+    }
+    for chain in ink_sweep::lengths(random) {
+        if counts.differ < MOST_DIFFERENCES {
+            put_chain(chain, drawing, random, counts);
         }
     }
 }

@@ -1,8 +1,10 @@
 //! Masks written as PGM files, and such files read, by the library and by a second writer and reader.
 use crate::{
+    ink,
     lent::{changed, Lent},
     library, netpbm,
     random::Random,
+    scan::scan,
 };
 use femtovg::calls::Refused;
 use std::fmt;
@@ -13,6 +15,8 @@ pub enum Made {
     Damaged,
     Spelled,
     Swept,
+    /// for its ink
+    Row,
 }
 
 pub enum Call {
@@ -25,15 +29,15 @@ pub enum Call {
     Read {
         made: Made,
         file: Vec<u8>,
-        /// how many bytes are lent for the mask, and numbers for its size and its corner
-        lent: [usize; 3],
+        /// how many bytes are lent for the mask, and numbers for its ink, its size and its corner
+        lent: [usize; 4],
     },
     /// What is written, which is not refused, is read.
     RoundTrip {
         mask: Vec<u8>,
         size: [usize; 2],
         file: usize,
-        lent: [usize; 3],
+        lent: [usize; 4],
     },
 }
 
@@ -63,15 +67,15 @@ fn write_lines(
 fn read_lines(
     f: &mut fmt::Formatter,
     file: &[u8],
-    [mask, size, corner]: [usize; 3],
+    [mask, ink, size, corner]: [usize; 4],
 ) -> fmt::Result {
     for (name, numbers) in [("size", size), ("corner", corner)] {
         if numbers != 2 {
             writeln!(f, "# so many numbers are lent for the {name}: {numbers}")?;
         }
     }
-    writeln!(f, "bufn next {mask} 9")?;
-    write!(f, "read_pgm next {}\nshow next", Bytes(file))
+    writeln!(f, "bufn next {mask} 9\nink next {ink} 7")?;
+    write!(f, "read_pgm next {}\nshow next\nshow_ink next", Bytes(file))
 }
 
 /// The call as a call list.
@@ -101,7 +105,8 @@ impl Call {
         match self {
             Call::Write { .. } => "write_pgm",
             Call::Read {
-                made: Made::Swept, ..
+                made: Made::Swept | Made::Row,
+                ..
             } => "read_pgm, sweep",
             Call::Read { .. } => "read_pgm",
             Call::RoundTrip { .. } => "pgm round trip",
@@ -110,13 +115,16 @@ impl Call {
 
     /// The number of both answers, with any length counted as done, or how they differ. Of a round trip
     /// it is the reading's.
-    pub fn compare(&self, random: &mut Random) -> Result<u8, String> {
+    pub fn compare(&self, random: &mut Random, inked: &mut ink::Counts) -> Result<u8, String> {
         match self {
             Call::Write { mask, size, file } => {
                 let answer = write(random, mask, *size, *file)?;
                 Ok(number(&answer))
             }
-            Call::Read { file, lent, .. } => Ok(number(&read(random, file, *lent)?)),
+            Call::Read { file, lent, .. } => {
+                let answer = read(random, file, *lent, inked)?;
+                Ok(number(&answer))
+            }
             Call::RoundTrip {
                 mask,
                 size,
@@ -125,7 +133,7 @@ impl Call {
             } => {
                 let written = write(random, mask, *size, *file)?;
                 let written = written.map_err(|number| format!("not written: {number}"))?;
-                let answer = read(random, &written, *lent)?;
+                let answer = read(random, &written, *lent, inked)?;
                 let cells = &mask[..size[0] * size[1]];
                 if answer.as_ref().is_ok_and(|mask| !mask.is(*size, cells)) {
                     return Err(
@@ -145,36 +153,25 @@ fn number<T>(answer: &Result<T, Refused>) -> u8 {
     answer.as_ref().err().copied().unwrap_or(library::DONE)
 }
 
-/// A mask that was read: what was lent for its size, its corner and its cells.
+/// A mask that was read: what was lent for its cells, its ink, its size and its corner.
 struct Mask {
+    bytes: Vec<u8>,
+    ink: Vec<u16>,
     size: Vec<usize>,
     corner: Vec<i32>,
-    bytes: Vec<u8>,
 }
 
 impl Mask {
+    fn sides(&self) -> [usize; 2] {
+        [self.size[0], self.size[1]]
+    }
+
     /// Whether it has this size and these cells and stands at (0, 0).
     fn is(&self, size: [usize; 2], cells: &[u8]) -> bool {
         self.size.starts_with(&size)
             && self.corner.starts_with(&[0, 0])
             && self.bytes.starts_with(cells)
     }
-}
-
-/// Whether memory holds what is expected, and the guards are as they were.
-fn held<T: Copy + PartialEq + fmt::Display>(
-    name: &str,
-    lent: &Lent<T>,
-    expected: &[T],
-) -> Result<(), String> {
-    let mut pairs = lent.lent().iter().zip(expected).enumerate();
-    if let Some((at, (new, old))) = pairs.find(|(_, (new, old))| new != old) {
-        return Err(format!("{name}, place {at}: {new}, expected {old}"));
-    }
-    if !lent.guarded(T::eq) {
-        return Err(changed());
-    }
-    Ok(())
 }
 
 /// Writes a mask into so many bytes. What comes of it is the file.
@@ -191,38 +188,85 @@ fn write(random: &mut Random, mask: &[u8], size: [usize; 2], length: usize) -> C
     if new != number {
         return Err(format!("number {new}, expected {number}"));
     }
-    held("the file", &file, &expected)?;
+    file.holds("the file", &expected)?;
     if !mask.kept(0, u8::eq) {
         return Err(changed());
     }
     Ok(old.map(|length| file.lent()[..length].to_vec()))
 }
 
+/// What is lent to be read into.
+struct Room {
+    mask: Lent<u8>,
+    ink: Lent<u16>,
+    size: Lent<usize>,
+    corner: Lent<i32>,
+}
+
+impl Room {
+    fn new([mask, ink, size, corner]: [usize; 4], random: &mut Random) -> Self {
+        Self {
+            mask: Lent::new(mask, || random.bits() as u8),
+            ink: Lent::new(ink, || random.bits() as u16),
+            size: Lent::new(size, || random.bits() as usize),
+            corner: Lent::new(corner, || random.bits() as i32),
+        }
+    }
+
+    fn read(&mut self, file: &[u8]) -> u8 {
+        let (mask, ink) = (self.mask.lend(), self.ink.lend());
+        library::read_pgm(file, mask, ink, self.size.lend(), self.corner.lend())
+    }
+
+    /// What the second reader answers and leaves in as much memory that holds the same, with so many numbers of ink.
+    fn expected(&self, file: &[u8], numbers: usize) -> (Result<(), Refused>, Mask) {
+        let mut mask = Mask {
+            bytes: self.mask.lent().to_vec(),
+            ink: self.ink.lent().to_vec(),
+            size: self.size.lent().to_vec(),
+            corner: self.corner.lent().to_vec(),
+        };
+        let (size, corner) = (&mut mask.size, &mut mask.corner);
+        let answer = netpbm::read(file, &mut mask.bytes, numbers, size, corner);
+        (answer, mask)
+    }
+
+    fn holds(&self, mask: &Mask) -> Result<(), String> {
+        self.mask.holds("the mask", &mask.bytes)?;
+        self.ink.holds("the ink", &mask.ink)?;
+        self.size.holds("the size", &mask.size)?;
+        self.corner.holds("the corner", &mask.corner)
+    }
+}
+
 /// Reads a file into so many bytes and numbers.
-fn read(random: &mut Random, file: &[u8], lent: [usize; 3]) -> Compared<Mask> {
+fn read(
+    random: &mut Random,
+    file: &[u8],
+    lent: [usize; 4],
+    inked: &mut ink::Counts,
+) -> Compared<Mask> {
     let file = Lent::holding(file, || random.bits() as u8);
-    let mut mask = Lent::new(lent[0], || random.bits() as u8);
-    let mut size = Lent::new(lent[1], || random.bits() as usize);
-    let mut corner = Lent::new(lent[2], || random.bits() as i32);
-    let (mut cells, mut sides) = (mask.lent().to_vec(), size.lent().to_vec());
-    let mut place = corner.lent().to_vec();
-    let old = netpbm::read(file.lent(), &mut cells, &mut sides, &mut place);
-    let new = library::read_pgm(file.lent(), mask.lend(), size.lend(), corner.lend());
+    let mut room = Room::new(lent, random);
+    let (old, mut mask) = room.expected(file.lent(), lent[1]);
+    let new = room.read(file.lent());
     let number = number(&old);
     if new != number {
         return Err(format!("number {new}, expected {number}"));
     }
-    held("the mask", &mask, &cells)?;
-    held("the size", &size, &sides)?;
-    held("the corner", &corner, &place)?;
+    if old.is_ok() {
+        scan(&mask.bytes, mask.sides(), &mut mask.ink);
+    }
+    room.holds(&mask)?;
     if !file.kept(0, u8::eq) {
         return Err(changed());
     }
-    Ok(old.map(|()| Mask {
-        size: size.lent().to_vec(),
-        corner: corner.lent().to_vec(),
-        bytes: mask.lent().to_vec(),
-    }))
+    if old.is_ok() {
+        inked.done(&mask.bytes, mask.sides(), &mask.ink)?;
+    } else if number == library::TOO_SHORT && room.expected(file.lent(), usize::MAX).0.is_ok() {
+        inked.refused();
+    }
+    Ok(old.map(|()| mask))
 }
 
 /// What is counted of PGM files: of each kind those that were read, and all.
@@ -243,6 +287,7 @@ impl Counts {
                 Made::Damaged => &mut self.damaged,
                 Made::Spelled => &mut self.spelled,
                 Made::Swept => &mut self.swept,
+                Made::Row => return,
             },
         };
         *read += (number == library::DONE) as u64;

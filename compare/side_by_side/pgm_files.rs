@@ -1,7 +1,7 @@
 //! Random and hostile masks to write as PGM files, and files to read.
 use crate::{
     drawings::lent,
-    netpbm,
+    ink, netpbm,
     pgm::{Call, Made},
     random::Random,
 };
@@ -76,9 +76,10 @@ fn numbers(random: &mut Random) -> usize {
     }
 }
 
-/// How many bytes are lent for so many cells, and how many numbers for the size and for the corner.
-fn lent_to_read(random: &mut Random, count: usize) -> [usize; 3] {
-    [lent(random, count), numbers(random), numbers(random)]
+/// How many bytes are lent for a mask of this size, and how many numbers for its ink, its size and its corner.
+fn lent_to_read(random: &mut Random, count: usize, [_, height]: [usize; 2]) -> [usize; 4] {
+    let (bytes, ink) = (lent(random, count), ink::lent(random, height));
+    [bytes, ink, numbers(random), numbers(random)]
 }
 
 fn round_trip(random: &mut Random) -> Call {
@@ -89,7 +90,7 @@ fn round_trip(random: &mut Random) -> Call {
         mask: cells(random, count + past),
         size,
         file: netpbm::header(size).len() + count + more,
-        lent: lent_to_read(random, count),
+        lent: lent_to_read(random, count, size),
     }
 }
 
@@ -149,7 +150,7 @@ fn damaged(random: &mut Random) -> Call {
     Call::Read {
         made: Made::Damaged,
         file,
-        lent: lent_to_read(random, count),
+        lent: lent_to_read(random, count, size),
     }
 }
 
@@ -241,7 +242,7 @@ fn spelled(random: &mut Random) -> Call {
     Call::Read {
         made: Made::Spelled,
         file,
-        lent: lent_to_read(random, count),
+        lent: lent_to_read(random, count, size),
     }
 }
 
@@ -283,10 +284,16 @@ fn varied(header: &[u8], raster: &[u8]) -> Vec<Vec<u8>> {
     files
 }
 
-/// Every variation of the small files, read with more memory than it takes and with one byte too few.
+/// Every variation of the small files, read with more memory than it takes, with one byte too few and with one number
+/// for the ink.
 pub fn headers() -> impl Iterator<Item = Call> {
     let files = SWEPT.iter().flat_map(|(header, raster)| {
-        let lent = [[raster.len() + 3, 3, 4], [raster.len() - 1, 2, 2]];
+        let count = raster.len();
+        let lent = [
+            [count + 3, 2 * count + 1, 3, 4],
+            [count - 1, 2 * count, 2, 2],
+            [count, 1, 2, 2],
+        ];
         let file = move |file: Vec<u8>| lent.map(|lent| (file.clone(), lent));
         varied(header, raster).into_iter().flat_map(file)
     });
@@ -306,7 +313,7 @@ pub fn sizes() -> impl Iterator<Item = Call> {
             mask: (0..count).map(|at| (at * 7 % 251) as u8).collect(),
             size,
             file: netpbm::header(size).len() + count,
-            lent: [count, 2, 2],
+            lent: [count, 2 * size[1], 2, 2],
         }
     })
 }
@@ -320,8 +327,9 @@ mod tests {
         let mut counts = [0; 16];
         for call in calls {
             if let Call::Read { file, lent, .. } = call {
-                let (mut mask, mut size) = (vec![0; lent[0]], vec![0; lent[1]]);
-                let answer = netpbm::read(&file, &mut mask, &mut size, &mut vec![0; lent[2]]);
+                let (mut mask, mut size) = (vec![0; lent[0]], vec![0; lent[2]]);
+                let mut corner = vec![0; lent[3]];
+                let answer = netpbm::read(&file, &mut mask, lent[1], &mut size, &mut corner);
                 counts[answer.err().unwrap_or(0) as usize] += 1;
             }
         }
@@ -344,7 +352,7 @@ mod tests {
         let counts = answers(headers());
         let bytes: usize = SWEPT.iter().map(|(header, _)| header.len()).sum();
         let files = 257 * (2 * bytes + SWEPT.len());
-        assert!(counts.iter().sum::<usize>() == 2 * files);
+        assert!(counts.iter().sum::<usize>() == 3 * files);
         assert!(every_answer_comes_often(counts));
     }
 }

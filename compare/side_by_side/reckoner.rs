@@ -1,7 +1,7 @@
 //! Document 01's reckoner: what each cell of a chain's two masks should be, in exact fractions,
 //! and how far its byte may lie from that. Written from the paragraphs 'Exact winding' and 'The
-//! reckoner', and for corners from document 02's change 8; it is given the arguments of the calls and
-//! nothing of the engines'.
+//! reckoner', for corners from document 02's change 8 and for ink's length from its change 9; it is given
+//! the arguments of the calls and nothing of the engines'.
 use crate::{chain::NAMES, fraction::Fraction};
 
 const LARGEST_SIDE: usize = 4096;
@@ -288,6 +288,20 @@ fn check_length(length: usize, [width, height]: [usize; 2]) -> Result<(), Refuse
     Ok(())
 }
 
+/// 'Two 16-bit numbers a row', and 'too little memory for it is number 4, with the mask'.
+fn check_ink(numbers: usize, [_, height]: [usize; 2]) -> Result<(), Refused> {
+    if numbers < height + height {
+        return Err(4);
+    }
+    Ok(())
+}
+
+fn check_lent(sizes: [[usize; 2]; 2], lent: [usize; 3]) -> Result<(), Refused> {
+    check_length(lent[0], sizes[0])?;
+    check_ink(lent[1], sizes[0])?;
+    check_length(lent[2], sizes[1])
+}
+
 fn check_corner(corner: [i32; 2]) -> Result<(), Refused> {
     let beyond = |number: &i32| (*number as i64).abs() > LARGEST_CORNER;
     if corner.iter().any(beyond) {
@@ -297,18 +311,19 @@ fn check_corner(corner: [i32; 2]) -> Result<(), Refused> {
 }
 
 impl Reckoner {
-    /// A drawing of the running mask (0) or the next (1). `lent` is how many mask bytes, scratch
-    /// floats and scratch counters there are.
+    /// A drawing of the running mask (0) or the next (1). `lent` is how many mask bytes, numbers of ink,
+    /// scratch floats and scratch counters there are.
     pub fn draw(
         &mut self,
         mask: usize,
         size: [usize; 2],
         corner: [i32; 2],
         words: &[i32],
-        lent: [usize; 3],
+        lent: [usize; 4],
     ) -> Result<(), Refused> {
         check_sides(&[size])?;
         check_length(lent[0], size)?;
+        check_ink(lent[1], size)?;
         let mut words = Words {
             left: words,
             points: 0,
@@ -319,7 +334,7 @@ impl Reckoner {
         }
         let [width, height] = size;
         let counters = (width + 63) / 64 + height + 1;
-        if lent[1] < width + 15 * words.points || lent[2] < counters {
+        if lent[2] < width + 15 * words.points || lent[3] < counters {
             return Err(4);
         }
         if self.follows() {
@@ -328,16 +343,16 @@ impl Reckoner {
         Ok(())
     }
 
-    /// The next mask laid on the running one, with the sizes given for both.
+    /// The next mask laid on the running one, with the sizes given for both. `lent` is how many bytes of the
+    /// running mask, numbers of its ink and bytes of the next mask there are.
     pub fn lay(
         &mut self,
         sizes: [[usize; 2]; 2],
         offset: [i32; 2],
-        lent: [usize; 2],
+        lent: [usize; 3],
     ) -> Result<(), Refused> {
         check_sides(&sizes)?;
-        check_length(lent[0], sizes[0])?;
-        check_length(lent[1], sizes[1])?;
+        check_lent(sizes, lent)?;
         self.laid(sizes, offset.map(i64::from));
         Ok(())
     }
@@ -347,13 +362,12 @@ impl Reckoner {
         &mut self,
         sizes: [[usize; 2]; 2],
         corners: [[i32; 2]; 2],
-        lent: [usize; 2],
+        lent: [usize; 3],
     ) -> Result<(), Refused> {
         check_sides(&sizes)?;
         check_corner(corners[0])?;
         check_corner(corners[1])?;
-        check_length(lent[0], sizes[0])?;
-        check_length(lent[1], sizes[1])?;
+        check_lent(sizes, lent)?;
         let [own, other] = self.masks.each_ref().map(|mask| mask.corner);
         self.strayed |= corners != [own, other];
         self.laid(
@@ -376,6 +390,10 @@ impl Reckoner {
     /// corners held'. Others are not followed beyond that call.
     pub fn follows(&self) -> bool {
         !self.strayed
+    }
+
+    pub fn sizes(&self) -> [[usize; 2]; 2] {
+        self.masks.each_ref().map(|mask| mask.size)
     }
 
     /// Holds every cell's byte to its share and allowed difference.
@@ -417,7 +435,7 @@ mod tests {
     /// The shares of a drawing two cells wide and one high, with their allowed differences.
     fn drawn(words: &[i32]) -> Vec<(Fraction, Fraction)> {
         let mut reckoner = Reckoner::default();
-        assert!(reckoner.draw(0, [2, 1], [0, 0], words, [2, 1000, 3]) == Ok(()));
+        assert!(reckoner.draw(0, [2, 1], [0, 0], words, [2, 2, 1000, 3]) == Ok(()));
         let cells = &reckoner.masks[0].cells;
         let pair = |cell: &Cell| (cell.share.clone(), cell.allowed.clone());
         cells.iter().map(pair).collect()
@@ -458,17 +476,17 @@ mod tests {
     #[test]
     fn layings() {
         let mut reckoner = Reckoner::default();
-        let lent = [3, 1000, 5];
-        assert!(reckoner.lay([[0, 0]; 2], [7, -7], [0, 0]) == Ok(()));
+        let lent = [3, 2, 1000, 5];
+        assert!(reckoner.lay([[0, 0]; 2], [7, -7], [0, 0, 0]) == Ok(()));
         assert!(reckoner.draw(0, [3, 1], [0, 0], &WIDE, lent) == Ok(()));
         assert!(reckoner.draw(1, [2, 1], [0, 0], &WIDE, lent) == Ok(()));
-        assert!(reckoner.lay([[3, 1], [2, 1]], [-1, 0], [3, 3]) == Ok(()));
+        assert!(reckoner.lay([[3, 1], [2, 1]], [-1, 0], [3, 2, 3]) == Ok(()));
         let cells = &reckoner.masks[0].cells;
         for (cell, (share, allowed)) in cells.iter().zip([(0, 6), (2, 11), (1, 11)]) {
             assert!(cell.share == Fraction::of(share, 2));
             assert!(cell.allowed == Fraction::of(allowed, 2));
         }
-        assert!(reckoner.lay([[3, 1], [1, 1]], [0, 0], [3, 3]) == Ok(()));
+        assert!(reckoner.lay([[3, 1], [1, 1]], [0, 0], [3, 2, 3]) == Ok(()));
         assert!(!reckoner.follows());
     }
 
@@ -478,7 +496,7 @@ mod tests {
     fn both_drawn(corners: [[i32; 2]; 2]) -> Reckoner {
         let mut reckoner = Reckoner::default();
         for (mask, width) in [(0, 3), (1, 2)] {
-            let drawn = reckoner.draw(mask, [width, 1], corners[mask], &WIDE, [3, 1000, 5]);
+            let drawn = reckoner.draw(mask, [width, 1], corners[mask], &WIDE, [3, 2, 1000, 5]);
             assert!(drawn == Ok(()));
         }
         reckoner
@@ -502,7 +520,7 @@ mod tests {
             ([[far, far], [-far, -far]], [0.0, 0.0, 0.0]),
         ] {
             let mut reckoner = both_drawn(corners);
-            assert!(reckoner.lay_placed([[3, 1], [2, 1]], corners, [3, 3]) == Ok(()));
+            assert!(reckoner.lay_placed([[3, 1], [2, 1]], corners, [3, 2, 3]) == Ok(()));
             assert!(reckoner.follows() && halves(&reckoner) == shares);
         }
     }
@@ -511,18 +529,18 @@ mod tests {
     fn corners_held() {
         let mut reckoner = Reckoner::default();
         let held = |reckoner: &Reckoner| reckoner.masks.each_ref().map(|mask| mask.corner);
-        assert!(reckoner.lay_placed([[0, 0]; 2], [[0, 0]; 2], [0, 0]) == Ok(()));
+        assert!(reckoner.lay_placed([[0, 0]; 2], [[0, 0]; 2], [0, 0, 0]) == Ok(()));
         assert!(reckoner.follows());
         let mut reckoner = both_drawn([[1, 2], [3, 4]]);
         assert!(held(&reckoner) == [[1, 2], [3, 4]]);
-        assert!(reckoner.draw(0, [3, 1], [9, 9], &WIDE[1..], [3, 1000, 5]) == Err(5));
+        assert!(reckoner.draw(0, [3, 1], [9, 9], &WIDE[1..], [3, 2, 1000, 5]) == Err(5));
         assert!(held(&reckoner) == [[1, 2], [3, 4]]);
-        assert!(reckoner.draw(0, [3, 1], [5, i32::MIN], &WIDE, [3, 1000, 5]) == Ok(()));
+        assert!(reckoner.draw(0, [3, 1], [5, i32::MIN], &WIDE, [3, 2, 1000, 5]) == Ok(()));
         assert!(held(&reckoner) == [[5, i32::MIN], [3, 4]]);
-        assert!(reckoner.lay([[3, 1], [2, 1]], [0, 0], [3, 3]) == Ok(()));
+        assert!(reckoner.lay([[3, 1], [2, 1]], [0, 0], [3, 2, 3]) == Ok(()));
         assert!(held(&reckoner) == [[5, i32::MIN], [3, 4]]);
-        assert!(reckoner.draw(0, [3, 1], [5, 4], &WIDE, [3, 1000, 5]) == Ok(()));
-        assert!(reckoner.lay_placed([[3, 1], [2, 1]], [[5, 4], [3, 4]], [3, 3]) == Ok(()));
+        assert!(reckoner.draw(0, [3, 1], [5, 4], &WIDE, [3, 2, 1000, 5]) == Ok(()));
+        assert!(reckoner.lay_placed([[3, 1], [2, 1]], [[5, 4], [3, 4]], [3, 2, 3]) == Ok(()));
         assert!(held(&reckoner) == [[5, 4], [3, 4]] && reckoner.follows());
     }
 
@@ -533,11 +551,11 @@ mod tests {
             let mut other = corners;
             other[mask][axis] += 1;
             let mut reckoner = both_drawn(corners);
-            assert!(reckoner.lay_placed(sizes, other, [3, 3]) == Ok(()));
+            assert!(reckoner.lay_placed(sizes, other, [3, 2, 3]) == Ok(()));
             assert!(!reckoner.follows());
         }
         let mut reckoner = both_drawn(corners);
-        assert!(reckoner.lay_placed([[2, 1], [2, 1]], corners, [3, 3]) == Ok(()));
+        assert!(reckoner.lay_placed([[2, 1], [2, 1]], corners, [3, 2, 3]) == Ok(()));
         assert!(!reckoner.follows());
     }
 
@@ -551,12 +569,14 @@ mod tests {
                 corners
             };
             for number in [1_048_576, -1_048_576] {
-                assert!(lay([[1, 1]; 2], at(number), [1, 1]) == Ok(()));
-                assert!(lay([[1, 1]; 2], at(number), [1, 0]) == Err(4));
+                assert!(lay([[1, 1]; 2], at(number), [1, 2, 1]) == Ok(()));
+                assert!(lay([[1, 1]; 2], at(number), [1, 2, 0]) == Err(4));
+                assert!(lay([[1, 1]; 2], at(number), [1, 1, 1]) == Err(4));
             }
             for number in [1_048_577, -1_048_577, i32::MAX, i32::MIN] {
-                assert!(lay([[1, 1]; 2], at(number), [0, 0]) == Err(16));
-                assert!(lay([[1, 1], [1, 4097]], at(number), [1, 1]) == Err(3));
+                assert!(lay([[1, 1]; 2], at(number), [0, 0, 0]) == Err(16));
+                assert!(lay([[1, 1]; 2], at(number), [1, 1, 1]) == Err(16));
+                assert!(lay([[1, 1], [1, 4097]], at(number), [1, 1, 1]) == Err(3));
             }
         }
     }
@@ -565,20 +585,33 @@ mod tests {
     fn refusals() {
         let mut reckoner = Reckoner::default();
         let mut draw = |size, words: &[i32], lent| reckoner.draw(0, size, [0, 0], words, lent);
-        assert!(draw([4097, 1], &[0], [0; 3]) == Err(3));
-        assert!(draw([2, 1], &[0], [1, 0, 0]) == Err(4));
-        assert!(draw([2, 1], &[0], [2, 0, 0]) == Err(5));
-        assert!(draw([2, 1], &[0, -1], [2, 0, 0]) == Err(6));
-        assert!(draw([2, 1], &[0, 1, 2049], [2, 0, 0]) == Err(6));
-        assert!(draw([2, 1], &[0, 1, 2048], [2, 0, 0]) == Err(5));
-        assert!(draw([2, 1], &[0, 1, 1, 1_048_577], [2, 0, 0]) == Err(7));
-        assert!(draw([2, 1], &[0, 1, 1, 1_048_576, 0], [2, 16, 3]) == Err(4));
-        assert!(draw([2, 1], &[0, 1, 1, 1_048_576, 0], [2, 17, 2]) == Err(4));
-        assert!(draw([2, 1], &[0, 1, 1, 1_048_576, 0], [2, 17, 3]) == Ok(()));
+        assert!(draw([4097, 1], &[0], [0; 4]) == Err(3));
+        assert!(draw([2, 1], &[0], [1, 2, 0, 0]) == Err(4));
+        assert!(draw([2, 1], &[0], [2, 1, 0, 0]) == Err(4));
+        assert!(draw([2, 1], &[0], [2, 2, 0, 0]) == Err(5));
+        assert!(draw([2, 1], &[0, -1], [2, 2, 0, 0]) == Err(6));
+        assert!(draw([2, 1], &[0, 1, 2049], [2, 2, 0, 0]) == Err(6));
+        assert!(draw([2, 1], &[0, 1, 2048], [2, 2, 0, 0]) == Err(5));
+        assert!(draw([2, 1], &[0, 1, 1, 1_048_577], [2, 2, 0, 0]) == Err(7));
+        assert!(draw([2, 1], &[0, 1, 1, 1_048_576, 0], [2, 2, 16, 3]) == Err(4));
+        assert!(draw([2, 1], &[0, 1, 1, 1_048_576, 0], [2, 2, 17, 2]) == Err(4));
+        assert!(draw([2, 1], &[0, 1, 1, 1_048_576, 0], [2, 1, 17, 3]) == Err(4));
+        assert!(draw([2, 1], &[0, 1, 1, 1_048_576, 0], [2, 2, 17, 3]) == Ok(()));
         let mut lay = |sizes, lent| reckoner.lay(sizes, [0, 0], lent);
-        assert!(lay([[1, 1], [1, 4097]], [0, 0]) == Err(3));
-        assert!(lay([[2, 1], [1, 1]], [1, 1]) == Err(4));
-        assert!(lay([[2, 1], [1, 2]], [2, 1]) == Err(4));
-        assert!(lay([[2, 1], [1, 2]], [2, 2]) == Ok(()));
+        assert!(lay([[1, 1], [1, 4097]], [0, 0, 0]) == Err(3));
+        assert!(lay([[2, 1], [1, 1]], [1, 2, 1]) == Err(4));
+        assert!(lay([[2, 1], [1, 2]], [2, 2, 1]) == Err(4));
+        assert!(lay([[2, 1], [1, 2]], [2, 1, 2]) == Err(4));
+        assert!(lay([[2, 1], [1, 2]], [2, 2, 2]) == Ok(()));
+    }
+
+    #[test]
+    fn rows_without_columns_have_ink() {
+        let mut reckoner = Reckoner::default();
+        let mut draw = |size, ink| reckoner.draw(0, size, [0, 0], &[], [0, ink, 9, 9]);
+        assert!(draw([0, 3], 5) == Err(4));
+        assert!(draw([0, 3], 6) == Ok(()));
+        assert!(draw([3, 0], 0) == Ok(()));
+        assert!(reckoner.sizes() == [[3, 0], [0, 0]]);
     }
 }

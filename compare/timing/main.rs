@@ -1,5 +1,6 @@
 //! Times Beamnettle beside femtovg's Rust, in one process, in turns. Prints medians as a table. PGM files,
-//! which femtovg has not, stand beside the reader and writer that they are compared with.
+//! which femtovg has not, stand beside the reader and writer that they are compared with. Ink is found by the
+//! new calls alone.
 #[path = "../side_by_side/library.rs"]
 #[allow(dead_code)]
 mod library;
@@ -8,6 +9,9 @@ mod netpbm;
 #[path = "../outlines/ring.rs"]
 #[allow(dead_code)]
 mod ring;
+#[path = "../ink/scan.rs"]
+#[allow(dead_code)]
+mod scan;
 
 use femtovg::{
     calls::{self, Box10, Fitted},
@@ -59,6 +63,13 @@ fn shown(seconds: f64) -> String {
     }
 }
 
+/// The ink that a scan of a mask finds.
+fn ink_of(mask: &[u8], size: [usize; 2]) -> Vec<u16> {
+    let mut ink = vec![0; 2 * size[1]];
+    scan::scan(mask, size, &mut ink);
+    ink
+}
+
 // ---- drawings
 
 type Contour = Vec<[i32; 2]>;
@@ -108,15 +119,22 @@ fn draw(name: &str, size: [usize; 2], groups: &[Vec<Contour>]) {
     let [width, height] = size;
     let words = words(groups);
     let points: usize = groups.iter().flatten().map(Vec::len).sum();
-    let mut mask = vec![0; width * height];
+    let (mut mask, mut ink) = (vec![0; width * height], vec![7; 2 * height]);
     let mut floats = vec![0.0; width + 15 * points];
     let mut counters = vec![0; width.div_ceil(64) + height + 1];
     let (key, mut scratch) = (Key::new(size, words.clone()), Scratch::default());
-    assert_eq!(
-        library::draw(&mut mask, size, [0, 0], &words, &mut floats, &mut counters),
-        library::DONE
+    let answer = library::draw(
+        &mut mask,
+        &mut ink,
+        size,
+        [0, 0],
+        &words,
+        &mut floats,
+        &mut counters,
     );
+    assert_eq!(answer, library::DONE);
     assert!(key.draw(&mut scratch) == mask, "{name}: masks differ");
+    assert!(ink == ink_of(&mask, size), "{name}: another ink");
     line(
         name,
         &mut || {
@@ -125,6 +143,7 @@ fn draw(name: &str, size: [usize; 2], groups: &[Vec<Contour>]) {
         &mut || {
             black_box(library::draw(
                 black_box(&mut mask),
+                &mut ink,
                 size,
                 [0, 0],
                 &words,
@@ -196,6 +215,19 @@ fn drawings() {
         [16, 16],
         &[vec![frame([8.0, 8.0], [6.0, 4.0], 0.4)]],
     );
+    blank_drawings();
+}
+
+/// Drawings without ink: an empty list, and a frame beside the mask.
+fn blank_drawings() {
+    let size = [4096, 4096];
+    draw("blank, an empty list, 4,096 x 4,096", size, &[]);
+    let beside = frame([-1000.0, 2048.0], [500.0, 1200.0], 0.2);
+    draw(
+        "blank, a turned frame beside the mask, 4,096 x 4,096",
+        size,
+        &[vec![beside]],
+    );
 }
 
 // ---- layings-on
@@ -207,17 +239,20 @@ fn drawn(size: [usize; 2], groups: &[Vec<Contour>]) -> Vec<u8> {
         .to_vec()
 }
 
-/// Times laying on a fresh copy of the mask.
+/// Times laying on a fresh copy of the mask, of this size.
 fn laid(
     name: &str,
     own: &[u8],
+    size: [usize; 2],
     old: impl Fn(&mut [u8]) -> Result<(), u8>,
-    new: impl Fn(&mut [u8]) -> u8,
+    new: impl Fn(&mut [u8], &mut [u16]) -> u8,
 ) {
     let (mut one, mut two) = (own.to_vec(), own.to_vec());
+    let mut ink = vec![7; 2 * size[1]];
     assert_eq!(old(&mut one), Ok(()));
-    assert_eq!(new(&mut two), library::DONE);
+    assert_eq!(new(&mut two, &mut ink), library::DONE);
     assert!(one == two, "{name}: masks differ");
+    assert!(ink == ink_of(&two, size), "{name}: another ink");
     line(
         name,
         &mut || {
@@ -226,7 +261,7 @@ fn laid(
         },
         &mut || {
             two.copy_from_slice(own);
-            black_box(new(black_box(&mut two)));
+            black_box(new(black_box(&mut two), &mut ink));
         },
     );
 }
@@ -237,8 +272,9 @@ fn lay(name: &str, sizes: [[usize; 2]; 2], own: &[u8], other: &[u8], offset: [i3
     laid(
         name,
         own,
-        |mask| calls::lay(mask, size, other, met, offset),
-        |mask| library::lay(mask, size, other, met, offset),
+        size,
+        |mask| calls::lay(mask, 2 * size[1], size, other, met, offset),
+        |mask, ink| library::lay(mask, ink, size, other, met, offset),
     );
 }
 
@@ -256,8 +292,9 @@ fn lay_both_ways(own: &[u8], other: &[u8]) {
     laid(
         "lay_placed, 1,024 x 1,024, corners 340 -20 and 240 40",
         own,
-        |mask| calls::lay_placed(mask, size, corner, other, size, place),
-        |mask| library::lay_placed(mask, size, corner, other, size, place),
+        size,
+        |mask| calls::lay_placed(mask, 2 * size[1], size, corner, other, size, place),
+        |mask, ink| library::lay_placed(mask, ink, size, corner, other, size, place),
     );
 }
 
@@ -321,23 +358,24 @@ fn write_pgm(size: [usize; 2], mask: &[u8]) -> Vec<u8> {
 
 fn read_pgm(file: &[u8], mask: &[u8]) {
     let (mut old, mut new) = (vec![0; mask.len()], vec![0; mask.len()]);
-    let (mut size, mut corner) = ([0; 2], [0; 2]);
-    assert_eq!(netpbm::read(file, &mut old, &mut size, &mut corner), Ok(()));
-    assert_eq!(
-        library::read_pgm(file, &mut new, &mut size, &mut corner),
-        library::DONE
-    );
+    let (mut size, mut corner, mut ink) = ([0; 2], [0; 2], vec![7; 1024]);
+    let answer = netpbm::read(file, &mut old, ink.len(), &mut size, &mut corner);
+    assert_eq!(answer, Ok(()));
+    let answer = library::read_pgm(file, &mut new, &mut ink, &mut size, &mut corner);
+    assert_eq!(answer, library::DONE);
     assert!(old == mask && new == mask, "masks differ");
+    assert!(ink == ink_of(mask, size), "another ink");
     line(
         "read_pgm, 512 x 512 (old: not femtovg's)",
         &mut || {
             let (mut size, mut corner) = ([0; 2], [0; 2]);
-            let answer = netpbm::read(black_box(file), &mut old, &mut size, &mut corner);
+            let answer = netpbm::read(black_box(file), &mut old, 1024, &mut size, &mut corner);
             let _ = black_box((answer, size, corner));
         },
         &mut || {
             let (mut size, mut corner) = ([0; 2], [0; 2]);
-            let answer = library::read_pgm(black_box(file), &mut new, &mut size, &mut corner);
+            let file = black_box(file);
+            let answer = library::read_pgm(file, &mut new, &mut ink, &mut size, &mut corner);
             black_box((answer, size, corner));
         },
     );

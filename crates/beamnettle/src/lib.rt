@@ -1,29 +1,27 @@
 // The kiosk's C library: the documents' calls over numbers and lent slices. include/beamnettle.h says
 // what each does in words; each contract gives its number and all that is lent afterwards outright.
-use cells::Corner;
-use cells::MaskRecord;
-use cells::Size;
-use laying::Offset;
 use shape::RoundedBox;
 ghost use mathlib.Core.Path.{_≡_};
 ghost use lib.ListN.{length};
-ghost use Rattle.mask.specs.Calls.{lent, outcomeNumber, drawAnswer, layAnswer, layPlacedAnswer};
+ghost use Rattle.ink.specs.Lent.{lent};
+ghost use Rattle.mask.specs.Calls.{outcomeNumber, drawAnswer, layAnswer, layPlacedAnswer};
 ghost use Rattle.touch.specs.Touch.{pointOf, touchCall};
 ghost use Rattle.boundary.specs.Answers.{after, boxHanded, coverageHanded, boundsHanded, distanceHanded, testNumber, touchNumber};
 ghost use Rattle.boundary.specs.Answers.{bothBoxHanded, bothCoverageHanded, fillHanded, outlineHanded, cutHanded, writeNumber, readNumber, sizeAfter, cornerAfter};
-ghost use Rattle.pgm.specs.Calls.{maskAfterReading};
-ghost use Rattle.pgm_exports.specs.Calls.{writeLent, fileWritten, readLent};
+ghost use Rattle.mask_exports.specs.Calls.{drawingLent, maskDrawn, inkDrawn, floatsDrawn, countersDrawn};
+ghost use Rattle.mask_exports.specs.Calls.{layingLent, maskLaid, inkLaid, placedLent, maskLaidPlaced, inkLaidPlaced};
+ghost use Rattle.pgm_exports.specs.Calls.{writeLent, fileWritten, readLent, maskRead, inkRead};
 ghost use Rattle.outline_exports.specs.Calls.{fitLent, fitOutlineLent, fitWithCutLent};
 ghost use Rattle.box_exports.specs.Calls.{transformedLent, intersectionLent, rectIntersectionLent, coverageLent};
 ghost use Rattle.box_exports.specs.Calls.{boundsLent, distanceLent, parallelLent, containsLent};
 ghost use Rattle.window_exports.specs.Calls.{withScissorLent, trimmedScissorLent, rectFillLent, uprightRectLent, reachLent, holdsLent};
-ghost use Rattle.beamnettle.specs.Calls.{drawingLent, maskDrawn, floatsDrawn, countersDrawn, layingLent, maskLaid, placedLent, maskLaidPlaced};
 
-// ---- masks
+// ---- masks: crate mask_exports has the calls
 
 #[no_mangle]
 pub extern "C" fn beamnettle_draw(
     mask: &mut [u8],
+    ink: &mut [u16],
     width: usize,
     height: usize,
     x: i32,
@@ -32,22 +30,21 @@ pub extern "C" fn beamnettle_draw(
     floats: &mut [f32],
     counters: &mut [u64],
 ) -> u8
-    ensures number { λ r. ⌜ r ≡ outcomeNumber (drawAnswer (drawingLent width height (now (words .entry)) (now (floats .entry)) (now (counters .entry))) (lent (now (mask .entry)))) ⌝ }
-    ensures cells { λ _. ⌜ now (mask .exit) ≡ maskDrawn (drawingLent width height (now (words .entry)) (now (floats .entry)) (now (counters .entry))) (now (mask .entry)) ⌝ }
+    ensures number { λ r. ⌜ r ≡ outcomeNumber (drawAnswer (drawingLent width height (now (words .entry)) (now (floats .entry)) (now (counters .entry))) (lent (now (mask .entry)) (now (ink .entry)))) ⌝ }
+    ensures cells { λ _. ⌜ now (mask .exit) ≡ maskDrawn (drawingLent width height (now (words .entry)) (now (floats .entry)) (now (counters .entry))) (now (mask .entry)) (now (ink .entry)) ⌝ }
+    ensures ink { λ _. ⌜ now (ink .exit) ≡ inkDrawn (drawingLent width height (now (words .entry)) (now (floats .entry)) (now (counters .entry))) (now (mask .entry)) (now (ink .entry)) ⌝ }
     ensures floats { λ _. ⌜ now (floats .exit)
-        ≡ floatsDrawn (drawingLent width height (now (words .entry)) (now (floats .entry)) (now (counters .entry))) (now (mask .entry)) (now (floats .entry)) ⌝ }
+        ≡ floatsDrawn (drawingLent width height (now (words .entry)) (now (floats .entry)) (now (counters .entry))) (now (mask .entry)) (now (ink .entry)) (now (floats .entry)) ⌝ }
     ensures counters { λ _. ⌜ now (counters .exit)
-        ≡ countersDrawn (drawingLent width height (now (words .entry)) (now (floats .entry)) (now (counters .entry))) (now (mask .entry)) (now (counters .entry)) ⌝ }
+        ≡ countersDrawn (drawingLent width height (now (words .entry)) (now (floats .entry)) (now (counters .entry))) (now (mask .entry)) (now (ink .entry)) (now (counters .entry)) ⌝ }
 {
-    let size = Size { width, height };
-    let corner = Corner { x, y };
-    let mask_record = MaskRecord { size, corner };
-    boundary::outcome_number(mask::rasterize_into(mask, mask_record, words, floats, counters))
+    mask_exports::draw(mask, ink, width, height, x, y, words, floats, counters)
 }
 
 #[no_mangle]
 pub extern "C" fn beamnettle_lay(
     mask: &mut [u8],
+    ink: &mut [u16],
     width: usize,
     height: usize,
     other: &[u8],
@@ -56,24 +53,27 @@ pub extern "C" fn beamnettle_lay(
     offset_x: i32,
     offset_y: i32,
 ) -> u8
-    ensures number { λ r. ⌜ r ≡ outcomeNumber (layAnswer (layingLent width height «other_width» «other_height» «offset_x» «offset_y») (lent (now (mask .entry))) (length (now (other .entry)))) ⌝ }
-    ensures cells { λ _. ⌜ now (mask .exit) ≡ maskLaid (layingLent width height «other_width» «other_height» «offset_x» «offset_y») (now (mask .entry)) (now (other .entry)) ⌝ }
+    ensures number { λ r. ⌜ r ≡ outcomeNumber (layAnswer (layingLent width height «other_width» «other_height» «offset_x» «offset_y») (lent (now (mask .entry)) (now (ink .entry))) (length (now (other .entry)))) ⌝ }
+    ensures cells { λ _. ⌜ now (mask .exit) ≡ maskLaid (layingLent width height «other_width» «other_height» «offset_x» «offset_y») (now (mask .entry)) (now (ink .entry)) (now (other .entry)) ⌝ }
+    ensures ink { λ _. ⌜ now (ink .exit) ≡ inkLaid (layingLent width height «other_width» «other_height» «offset_x» «offset_y») (now (mask .entry)) (now (ink .entry)) (now (other .entry)) ⌝ }
 {
-    let own_size = Size { width, height };
-    let other_size = Size {
-        width: other_width,
-        height: other_height,
-    };
-    let offset = Offset {
-        x: offset_x,
-        y: offset_y,
-    };
-    boundary::outcome_number(mask::intersect(mask, own_size, other, other_size, offset))
+    mask_exports::lay(
+        mask,
+        ink,
+        width,
+        height,
+        other,
+        other_width,
+        other_height,
+        offset_x,
+        offset_y,
+    )
 }
 
 #[no_mangle]
 pub extern "C" fn beamnettle_lay_placed(
     mask: &mut [u8],
+    ink: &mut [u16],
     width: usize,
     height: usize,
     x: i32,
@@ -84,24 +84,23 @@ pub extern "C" fn beamnettle_lay_placed(
     other_x: i32,
     other_y: i32,
 ) -> u8
-    ensures number { λ r. ⌜ r ≡ outcomeNumber (layPlacedAnswer (placedLent width height x y «other_width» «other_height» «other_x» «other_y») (lent (now (mask .entry))) (length (now (other .entry)))) ⌝ }
-    ensures cells { λ _. ⌜ now (mask .exit) ≡ maskLaidPlaced (placedLent width height x y «other_width» «other_height» «other_x» «other_y») (now (mask .entry)) (now (other .entry)) ⌝ }
+    ensures number { λ r. ⌜ r ≡ outcomeNumber (layPlacedAnswer (placedLent width height x y «other_width» «other_height» «other_x» «other_y») (lent (now (mask .entry)) (now (ink .entry))) (length (now (other .entry)))) ⌝ }
+    ensures cells { λ _. ⌜ now (mask .exit) ≡ maskLaidPlaced (placedLent width height x y «other_width» «other_height» «other_x» «other_y») (now (mask .entry)) (now (ink .entry)) (now (other .entry)) ⌝ }
+    ensures ink { λ _. ⌜ now (ink .exit) ≡ inkLaidPlaced (placedLent width height x y «other_width» «other_height» «other_x» «other_y») (now (mask .entry)) (now (ink .entry)) (now (other .entry)) ⌝ }
 {
-    let own = MaskRecord {
-        size: Size { width, height },
-        corner: Corner { x, y },
-    };
-    let other_record = MaskRecord {
-        size: Size {
-            width: other_width,
-            height: other_height,
-        },
-        corner: Corner {
-            x: other_x,
-            y: other_y,
-        },
-    };
-    boundary::outcome_number(mask::intersect_placed(mask, own, other, other_record))
+    mask_exports::lay_placed(
+        mask,
+        ink,
+        width,
+        height,
+        x,
+        y,
+        other,
+        other_width,
+        other_height,
+        other_x,
+        other_y,
+    )
 }
 
 // ---- masks as files: crate pgm_exports has the calls
@@ -123,18 +122,21 @@ pub extern "C" fn beamnettle_write_pgm(
 pub extern "C" fn beamnettle_read_pgm(
     file: &[u8],
     mask: &mut [u8],
+    ink: &mut [u16],
     size: &mut [usize],
     corner: &mut [i32],
 ) -> u8
-    ensures number { λ r. ⌜ r ≡ readNumber (readLent (now (file .entry)) (now (mask .entry)) (length (now (size .entry))) (length (now (corner .entry)))) ⌝ }
+    ensures number { λ r. ⌜ r ≡ readNumber (readLent (now (file .entry)) (lent (now (mask .entry)) (now (ink .entry))) (length (now (size .entry))) (length (now (corner .entry)))) ⌝ }
     ensures cells { λ _. ⌜ now (mask .exit)
-        ≡ maskAfterReading (readLent (now (file .entry)) (now (mask .entry)) (length (now (size .entry))) (length (now (corner .entry)))) (now (file .entry)) (now (mask .entry)) ⌝ }
+        ≡ maskRead (now (file .entry)) (now (mask .entry)) (now (ink .entry)) (length (now (size .entry))) (length (now (corner .entry))) ⌝ }
+    ensures ink { λ _. ⌜ now (ink .exit)
+        ≡ inkRead (now (file .entry)) (now (mask .entry)) (now (ink .entry)) (length (now (size .entry))) (length (now (corner .entry))) ⌝ }
     ensures size { λ _. ⌜ now (size .exit)
-        ≡ sizeAfter (readLent (now (file .entry)) (now (mask .entry)) (length (now (size .entry))) (length (now (corner .entry)))) (now (size .entry)) ⌝ }
+        ≡ sizeAfter (readLent (now (file .entry)) (lent (now (mask .entry)) (now (ink .entry))) (length (now (size .entry))) (length (now (corner .entry)))) (now (size .entry)) ⌝ }
     ensures corner { λ _. ⌜ now (corner .exit)
-        ≡ cornerAfter (readLent (now (file .entry)) (now (mask .entry)) (length (now (size .entry))) (length (now (corner .entry)))) (now (corner .entry)) ⌝ }
+        ≡ cornerAfter (readLent (now (file .entry)) (lent (now (mask .entry)) (now (ink .entry))) (length (now (size .entry))) (length (now (corner .entry)))) (now (corner .entry)) ⌝ }
 {
-    pgm_exports::read_pgm(file, mask, size, corner)
+    pgm_exports::read_pgm(file, mask, ink, size, corner)
 }
 
 // ---- outlines: crate outline_exports has the calls

@@ -20,7 +20,8 @@ use Rattle.cells.proofs.Places.{front-byte}
 use Rattle.coverage.specs.Drawing.{drawingRow, drawingOf}
 use Rattle.coverage.proofs.Places.{drawing-length, drawing-byte}
 use Rattle.mask.specs.declared.Outcome.the-variants.{Done}
-use Rattle.mask.specs.Calls.{Drawing, Lent, lent, maskAfterDrawing}
+use Rattle.ink.specs.Lent.{Lent, lent}
+use Rattle.mask.specs.Calls.{Drawing, maskAfterDrawing}
 use Rattle.mask.specs.Laws.{CanDraw}
 use Rattle.mask.proofs.Causes.{done-exactly-when}
 use Rattle.bound.specs.Counted.{reaches, countAt, allowedDifferenceAt}
@@ -72,8 +73,8 @@ allowed-le [] c row = refl≤ (natᶠ 0)
 allowed-le (g ∷ gs) c row = add-mono (add-mono (nat-le (count-le (exactEdges (g .contours)) c row)) (refl≤ (1 /2^ 1))) (allowed-le gs c row)
 
 pub drawn-bytes-are-close-by-cell : DrawnBytesAreCloseByCell
-drawn-bytes-are-close-by-cell d mask done column row c r = by-cell d column row c r mask (done-exactly-when .only d (lent mask) done)
+drawn-bytes-are-close-by-cell d mask ink done column row c r = by-cell d column row c r mask (done-exactly-when .only d (lent mask ink) done)
 
 pub drawn-bytes-are-close : DrawnBytesAreClose
-drawn-bytes-are-close d mask done column row c r =
-    near-weaken (drawn-bytes-are-close-by-cell d mask done column row c r) (allowed-le (groupsOf (d .words)) column row)
+drawn-bytes-are-close d mask ink done column row c r =
+    near-weaken (drawn-bytes-are-close-by-cell d mask ink done column row c r) (allowed-le (groupsOf (d .words)) column row)

@@ -10,14 +10,15 @@ use Rattle.word_list.specs.Words.{Group, groupsOf}
 use Rattle.winding.specs.Drawn.{drawnShare, allowedDifference}
 use Rattle.cells.specs.Cells.{byteAt}
 use Rattle.mask.specs.declared.Outcome.the-variants.{Done}
-use Rattle.mask.specs.Calls.{Drawing, lent, drawAnswer, maskAfterDrawing}
+use Rattle.ink.specs.Lent.{lent}
+use Rattle.mask.specs.Calls.{Drawing, drawAnswer, maskAfterDrawing}
 use Rattle.bound.specs.Counted.{allowedDifferenceAt}
 
 -- for every done drawing and every cell: the byte differs from 255 times the share by at most what `difference` gives
 -- for the groups, the column and the row
 abbrev pub DrawnBytesWithin : (List Group → ℕ → ℕ → Fraction) → Type 0
 DrawnBytesWithin difference =
-    (d : Drawing) (mask : List ℕ) → drawAnswer d (lent mask) ≡ Done → (column row : ℕ) → column < d .size .width → row < d .size .height →
+    (d : Drawing) (mask ink : List ℕ) → drawAnswer d (lent mask ink) ≡ Done → (column row : ℕ) → column < d .size .width → row < d .size .height →
     let groups = groupsOf (d .words) in
     Near (natᶠ (byteAt (d .size) (maskAfterDrawing Done d mask) column row)) (natᶠ 255 *ᶠ drawnShare groups column row) (difference groups column row)
 

@@ -1,24 +1,42 @@
-// A mask buffer of the call runner: filled, shown, looked at.
+// The buffers of the call runner, for masks and for their ink: filled, shown, looked at.
 use fields::Field;
 use fields::MOST_LINE;
 use fields::Problem;
 
 pub const MOST_BYTES: usize = 65536;
+// The most numbers of an ink buffer. No mask asks for more than 8,192.
+pub const MOST_INK: usize = 8200;
 
-// A buffer's length after a call, and what is wrong with the call's line.
+// The lengths of a mask buffer and of its ink buffer.
+pub struct Lengths {
+    pub mask: usize,
+    pub ink: usize,
+}
+
+// The buffers' lengths after a call, and what is wrong with the call's line.
 pub struct AfterCall {
-    pub length: usize,
+    pub lengths: Lengths,
     pub problem: Problem,
 }
 
-pub fn left(length: usize, problem: Problem) -> AfterCall {
-    AfterCall { length, problem }
+pub fn left(lengths: Lengths, problem: Problem) -> AfterCall {
+    AfterCall { lengths, problem }
 }
 
-// The length that a call gives a buffer, with its answer.
-fn set(length: usize) -> AfterCall {
+// The lengths that a call gives the buffers, with its answer.
+fn set(mask: usize, ink: usize) -> AfterCall {
     writing::write(b"done\n");
-    left(length, Problem::Nothing)
+    left(Lengths { mask, ink }, Problem::Nothing)
+}
+
+// How many bytes are read from a line, and what is wrong with it.
+pub struct ReadBytes {
+    pub count: usize,
+    pub problem: Problem,
+}
+
+fn read(count: usize, problem: Problem) -> ReadBytes {
+    ReadBytes { count, problem }
 }
 
 fn store_hex(line: &[u8; MOST_LINE], f: Field, buffer: &mut [u8; MOST_BYTES]) -> usize {
@@ -56,14 +74,14 @@ fn hex_problem(line: &[u8; MOST_LINE], f: Field) -> Problem {
 }
 
 // The bytes of a line's last field, put into a buffer: how many, or what is wrong.
-pub fn read_bytes(line: &[u8; MOST_LINE], at: usize, bytes: &mut [u8; MOST_BYTES]) -> AfterCall {
+pub fn read_bytes(line: &[u8; MOST_LINE], at: usize, bytes: &mut [u8; MOST_BYTES]) -> ReadBytes {
     let f = fields::next(line, at);
     if fields::is(line, f, b"-") {
-        return left(0, fields::at_end(line, f.end));
+        return read(0, fields::at_end(line, f.end));
     }
     match hex_problem(line, f) {
-        Problem::Nothing => left(store_hex(line, f, bytes), Problem::Nothing),
-        problem => left(0, problem),
+        Problem::Nothing => read(store_hex(line, f, bytes), Problem::Nothing),
+        problem => read(0, problem),
     }
 }
 
@@ -71,13 +89,13 @@ pub fn buf(
     line: &[u8; MOST_LINE],
     at: usize,
     buffer: &mut [u8; MOST_BYTES],
-    length: usize,
+    lengths: Lengths,
 ) -> AfterCall {
-    let read = read_bytes(line, at, buffer);
-    let problem = read.problem;
+    let bytes = read_bytes(line, at, buffer);
+    let problem = bytes.problem;
     match problem {
-        Problem::Nothing => set(read.length),
-        problem => left(length, problem),
+        Problem::Nothing => set(bytes.count, lengths.ink),
+        problem => left(lengths, problem),
     }
 }
 
@@ -96,26 +114,26 @@ pub fn bufn(
     line: &[u8; MOST_LINE],
     at: usize,
     buffer: &mut [u8; MOST_BYTES],
-    length: usize,
+    lengths: Lengths,
 ) -> AfterCall {
     let first = fields::size_at(line, at);
     let second = fields::size_at(line, first.at);
     if !first.good || !second.good {
-        return left(length, Problem::NotANumber);
+        return left(lengths, Problem::NotANumber);
     }
     let n = first.value;
     let byte = second.value;
     if n > MOST_BYTES {
-        return left(length, Problem::BufferTooLong);
+        return left(lengths, Problem::BufferTooLong);
     }
     if byte > 255 {
-        return left(length, Problem::NotAByte);
+        return left(lengths, Problem::NotAByte);
     }
     let Problem::Nothing = fields::at_end(line, second.at) else {
-        return left(length, Problem::FieldTooMany);
+        return left(lengths, Problem::FieldTooMany);
     };
     fill(buffer, n, byte as u8);
-    set(n)
+    set(n, lengths.ink)
 }
 
 fn show_bytes(buffer: &[u8], length: usize) {
@@ -129,16 +147,16 @@ pub fn show(
     at: usize,
     buffer: &[u8; MOST_BYTES],
     length: usize,
-) -> AfterCall {
+) -> Problem {
     let Problem::Nothing = fields::at_end(line, at) else {
-        return left(length, Problem::FieldTooMany);
+        return Problem::FieldTooMany;
     };
     if length == 0 {
         writing::write(b"-");
     }
     show_bytes(buffer, length);
     writing::write(b"\n");
-    left(length, Problem::Nothing)
+    Problem::Nothing
 }
 
 // A cell's shade, from none to all.
@@ -179,15 +197,78 @@ pub fn picture(
     at: usize,
     buffer: &[u8; MOST_BYTES],
     length: usize,
-) -> AfterCall {
+) -> Problem {
     let width = fields::size_at(line, at);
     let height = fields::size_at(line, width.at);
     if !width.good || !height.good {
-        return left(length, Problem::NotANumber);
+        return Problem::NotANumber;
     }
     let Problem::Nothing = fields::at_end(line, height.at) else {
-        return left(length, Problem::FieldTooMany);
+        return Problem::FieldTooMany;
     };
     picture_cells(buffer, length, width.value, height.value);
-    left(length, Problem::Nothing)
+    Problem::Nothing
+}
+
+// ---- ink
+
+fn fill_ink(ink: &mut [u16; MOST_INK], length: usize, number: u16) {
+    let mut i = 0;
+    while i < MOST_INK {
+        if length <= i {
+            return;
+        }
+        ink[i] = number;
+        i += 1;
+    }
+}
+
+// Makes an ink buffer so long, each number the same.
+pub fn ink(
+    line: &[u8; MOST_LINE],
+    at: usize,
+    ink: &mut [u16; MOST_INK],
+    lengths: Lengths,
+) -> AfterCall {
+    let first = fields::size_at(line, at);
+    let second = fields::size_at(line, first.at);
+    if !first.good || !second.good {
+        return left(lengths, Problem::NotANumber);
+    }
+    let n = first.value;
+    let number = second.value;
+    if n > MOST_INK {
+        return left(lengths, Problem::InkTooLong);
+    }
+    if number > 65535 {
+        return left(lengths, Problem::NotSixteenBits);
+    }
+    let Problem::Nothing = fields::at_end(line, second.at) else {
+        return left(lengths, Problem::FieldTooMany);
+    };
+    fill_ink(ink, n, number as u16);
+    set(lengths.mask, n)
+}
+
+fn show_numbers(ink: &[u16], length: usize) {
+    if length <= ink.len() {
+        writing::numbers(&ink[0..length]);
+    }
+}
+
+pub fn show_ink(
+    line: &[u8; MOST_LINE],
+    at: usize,
+    ink: &[u16; MOST_INK],
+    length: usize,
+) -> Problem {
+    let Problem::Nothing = fields::at_end(line, at) else {
+        return Problem::FieldTooMany;
+    };
+    if length == 0 {
+        writing::write(b"-");
+    }
+    show_numbers(ink, length);
+    writing::write(b"\n");
+    Problem::Nothing
 }

@@ -1,94 +1,49 @@
 // Reads a list of calls, one a line, and writes an answer a line: README.md, 'A list of calls'.
+use buffers::Lengths;
 use buffers::MOST_BYTES;
-use fields::Field;
+use buffers::MOST_INK;
 use fields::MOST_LINE;
 use fields::Problem;
 use input::CHUNK;
 use input::Input;
+use input::Reading;
+use line_calls::Held;
 
-// What is kept from line to line, beside the buffers' bytes.
+// The numbers of an ink buffer at first: enough for every mask.
+const FIRST_INK: usize = 8192;
+
+// What is kept from line to line, beside what the buffers hold.
 struct State {
     at: usize,
     have: usize,
     line: u64,
-    run: usize,
-    next: usize,
+    held: Held,
     open: bool,
-}
-
-// Answers a call on a buffer.
-fn on_buffer(
-    line: &[u8; MOST_LINE],
-    name: Field,
-    run: &mut [u8; MOST_BYTES],
-    next: &mut [u8; MOST_BYTES],
-    s: State,
-) -> State {
-    let which = fields::next(line, name.end);
-    if fields::is(line, which, b"run") {
-        let l = mask_calls::answer(line, name, which.end, run, s.run);
-        let problem = l.problem;
-        return kept(s, l.length, s.next, problem);
-    }
-    if fields::is(line, which, b"next") {
-        let l = mask_calls::answer(line, name, which.end, next, s.next);
-        let problem = l.problem;
-        return kept(s, s.run, l.length, problem);
-    }
-    kept(s, s.run, s.next, Problem::UnknownBuffer)
-}
-
-// Says what is wrong, if anything is, and keeps the buffers' lengths.
-fn kept(s: State, run: usize, next: usize, problem: Problem) -> State {
-    writing::tell(s.line, problem);
-    State {
-        at: s.at,
-        have: s.have,
-        line: s.line,
-        run,
-        next,
-        open: s.open,
-    }
-}
-
-// Answers a line, if it holds a call.
-fn answer(
-    line: &[u8; MOST_LINE],
-    run: &mut [u8; MOST_BYTES],
-    next: &mut [u8; MOST_BYTES],
-    s: State,
-) -> State {
-    let name = fields::next(line, 0);
-    if fields::is_empty(name) {
-        return s;
-    }
-    if fields::byte_at(line, name.start) == b'#' {
-        return s;
-    }
-    if mask_calls::has(line, name) {
-        return on_buffer(line, name, run, next, s);
-    }
-    if fields::is(line, name, b"lay") {
-        let problem = mask_calls::lay(line, name.end, run, s.run, next, s.next);
-        return kept(s, s.run, s.next, problem);
-    }
-    if fields::is(line, name, b"lay_at") {
-        let problem = mask_calls::lay_at(line, name.end, run, s.run, next, s.next);
-        return kept(s, s.run, s.next, problem);
-    }
-    kept(s, s.run, s.next, shape_calls::answer(line, name))
 }
 
 fn one_more(n: u64) -> u64 {
     if n < u64::MAX { n + 1 } else { n }
 }
 
-// Reads a line and answers it.
+// What is kept after a line of this number.
+fn kept(r: Reading, line: u64, held: Held) -> State {
+    State {
+        at: r.at,
+        have: r.have,
+        line,
+        held,
+        open: r.found,
+    }
+}
+
+// Reads a line and answers it, or says what is wrong with it.
 fn turn(
     chunk: &mut [u8; CHUNK],
     line: &mut [u8; MOST_LINE],
     run: &mut [u8; MOST_BYTES],
+    run_ink: &mut [u16; MOST_INK],
     next: &mut [u8; MOST_BYTES],
+    next_ink: &mut [u16; MOST_INK],
     s: State,
 ) -> State {
     let r = input::read_line(
@@ -99,18 +54,15 @@ fn turn(
             have: s.have,
         },
     );
-    let now = State {
-        at: r.at,
-        have: r.have,
-        line: one_more(s.line),
-        run: s.run,
-        next: s.next,
-        open: r.found,
-    };
+    let number = one_more(s.line);
     if r.over {
-        return kept(now, s.run, s.next, Problem::LineTooLong);
+        writing::tell(number, Problem::LineTooLong);
+        return kept(r, number, s.held);
     }
-    answer(line, run, next, now)
+    let after = line_calls::answer(line, run, run_ink, next, next_ink, s.held);
+    let problem = after.problem;
+    writing::tell(number, problem);
+    kept(r, number, after.held)
 }
 
 // Answers every line. The turns are counted down, from a number that no input uses up.
@@ -118,19 +70,27 @@ fn answer_all(
     chunk: &mut [u8; CHUNK],
     line: &mut [u8; MOST_LINE],
     run: &mut [u8; MOST_BYTES],
+    run_ink: &mut [u16; MOST_INK],
     next: &mut [u8; MOST_BYTES],
+    next_ink: &mut [u16; MOST_INK],
 ) {
+    let first = Lengths {
+        mask: 0,
+        ink: FIRST_INK,
+    };
     let mut s = State {
         at: 0,
         have: 0,
         line: 0,
-        run: 0,
-        next: 0,
+        held: Held {
+            run: first,
+            next: first,
+        },
         open: true,
     };
     let mut turns = u64::MAX;
     while turns > 0 && s.open {
-        s = turn(chunk, line, run, next, s);
+        s = turn(chunk, line, run, run_ink, next, next_ink, s);
         turns -= 1;
     }
 }
@@ -139,6 +99,15 @@ fn main() {
     let mut chunk = [0u8; CHUNK];
     let mut line = [0u8; MOST_LINE];
     let mut run = [0u8; MOST_BYTES];
+    let mut run_ink = [7u16; MOST_INK];
     let mut next = [0u8; MOST_BYTES];
-    answer_all(&mut chunk, &mut line, &mut run, &mut next);
+    let mut next_ink = [7u16; MOST_INK];
+    answer_all(
+        &mut chunk,
+        &mut line,
+        &mut run,
+        &mut run_ink,
+        &mut next,
+        &mut next_ink,
+    );
 }

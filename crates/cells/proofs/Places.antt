@@ -12,12 +12,12 @@ use Rattle.cells.specs.Rows.{rowsFrom}
 
 -- rows, each w wide
 module _ (line : ℕ → List ℕ) (w : ℕ) (wide : (row : ℕ) → length (line row) ≡ w) where
-  rows-length : (n row : ℕ) → length (rowsFrom line n row) ≡ n * w
+  pub rows-length : (n row : ℕ) → length (rowsFrom line n row) ≡ n * w
   unfolding rowsFrom
   rows-length zero row = omega arith
   rows-length (suc n) row = omega (arith, length-append (line row) (rowsFrom line n (suc row)), wide row, rows-length n (suc row))
 
-  rows-get : (n row r c : ℕ) → r < n → c < w → getD (rowsFrom line n row) (r * w + c) 0 ≡ getD (line (row + r)) c 0
+  pub rows-get : (n row r c : ℕ) → r < n → c < w → getD (rowsFrom line n row) (r * w + c) 0 ≡ getD (line (row + r)) c 0
   unfolding rowsFrom
   rows-get zero row r c k l = absurd (not-suc-le-zero k)
   rows-get (suc n) row zero c k l =

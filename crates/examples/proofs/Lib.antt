@@ -1,7 +1,8 @@
--- Shown: the theorem `starred-shown`. Placed: `laid-by-corners`. Touched: `edges-take-a-finger`, `first-of-several`.
+-- Shown: the theorem `starred-shown`. Placed: `laid-by-corners`. Inked: `ink-shown`. Touched: `edges-take-a-finger`, `first-of-several`.
 -- Sheet: `sheet-of-frames`. Curved: `curves-fit`.
 pub mod Shown
 pub mod Placed
+pub mod Inked
 pub mod Touched
 pub mod Sheet
 pub mod Curved

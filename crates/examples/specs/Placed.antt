@@ -10,8 +10,9 @@ use Rattle.cells.specs.declared.Corner.{Corner}
 use Rattle.laying.specs.Placed.{Placed, placed, byOffset}
 use Rattle.mask.specs.declared.Outcome.{Outcome}
 use Rattle.mask.specs.declared.Outcome.the-variants.{Done, Refused}
-use Rattle.mask.specs.Calls.{Lent, lent, layPlacedAnswer, maskAfterLaying}
-use Rattle.examples.specs.Starred.{row, past}
+use Rattle.ink.specs.Lent.{lent}
+use Rattle.mask.specs.Calls.{layPlacedAnswer, maskAfterLaying}
+use Rattle.examples.specs.Starred.{row, past, ink}
 
 abbrev pub at : ℤ → ℤ → Corner
 at x y = record { x = x; y = y }
@@ -28,11 +29,11 @@ other = 255 ∷ 255 ∷ past
 
 -- done, with these cells
 abbrev pub Lays : Corner → Corner → List ℕ → Type 0
-Lays own others cells = (layPlacedAnswer (masksAt own others) (lent mask) 3 ≡ Done) × (maskAfterLaying Done (byOffset (masksAt own others)) mask other ≡ cells ++ past)
+Lays own others cells = (layPlacedAnswer (masksAt own others) (lent mask ink) 3 ≡ Done) × (maskAfterLaying Done (byOffset (masksAt own others)) mask other ≡ cells ++ past)
 
 -- refused, where buffers of so many bytes are lent
 abbrev pub Refuses : Placed → ℕ → ℕ → Fault → Type 0
-Refuses p n m f = layPlacedAnswer p (record { mask = n }) m ≡ Refused f
+Refuses p n m f = layPlacedAnswer p (record { mask = n; ink = 2 }) m ≡ Refused f
 
 -- with 16, where enough is lent
 abbrev pub TooFar : Corner → Corner → Type 0

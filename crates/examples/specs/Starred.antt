@@ -10,7 +10,8 @@ use Rattle.float.specs.Ops.{f0, f1, f2}
 use Rattle.cells.specs.declared.Size.{Size}
 use Rattle.laying.specs.declared.Offset.{Offset}
 use Rattle.laying.specs.Laying.{Laying, laying}
-use Rattle.mask.specs.Calls.{Drawing, drawing, lent, drawAnswer, maskAfterDrawing, floatsAfterDrawing, countersAfterDrawing, layAnswer, maskAfterLaying}
+use Rattle.ink.specs.Lent.{lent}
+use Rattle.mask.specs.Calls.{Drawing, drawing, drawAnswer, maskAfterDrawing, floatsAfterDrawing, countersAfterDrawing, layAnswer, maskAfterLaying}
 use Rattle.mask.specs.declared.Outcome.the-variants.{Done}
 use Rattle.shape.specs.declared.BoxAnswer.{BoxAnswer}
 use Rattle.shape.specs.declared.BoxAnswer.the-variants as box
@@ -23,7 +24,7 @@ pub data Example : Type 0 where
   lays : (cells : List ℕ) (other : List ℕ) (offset : Offset) (after : List ℕ) → Example
   fits : (verbs : List ℕ) (positions : List Float) (answer : BoxAnswer) → Example
 
--- ---- what is lent: one byte more than the mask needs, and scratch that holds rubbish
+-- ---- what is lent: one byte more than the mask needs, one number more than its ink, and scratch that holds rubbish
 
 abbrev pub row : ℕ → Size
 row width = record { width = width; height = 1 }
@@ -41,17 +42,20 @@ counters = 5 ∷ 6 ∷ 7 ∷ []
 abbrev pub mask : List ℕ
 mask = 8 ∷ 9 ∷ past
 
--- ---- what is shown: the answer, every byte lent, all scratch
+abbrev pub ink : List ℕ
+ink = 5 ∷ 6 ∷ 7 ∷ []
+
+-- ---- what is shown: the answer, every byte lent as a mask, all scratch. (Ink: Inked.antt)
 
 abbrev pub ShownDrawing : Drawing → List ℕ → Type 0
 ShownDrawing d cells =
-    (drawAnswer d (lent mask) ≡ Done) × (maskAfterDrawing (drawAnswer d (lent mask)) d mask ≡ cells ++ past)
-    × (floatsAfterDrawing (drawAnswer d (lent mask)) floats ≡ replicate (length floats) f0)
-    × (countersAfterDrawing (drawAnswer d (lent mask)) counters ≡ replicate (length counters) 0)
+    (drawAnswer d (lent mask ink) ≡ Done) × (maskAfterDrawing (drawAnswer d (lent mask ink)) d mask ≡ cells ++ past)
+    × (floatsAfterDrawing (drawAnswer d (lent mask ink)) floats ≡ replicate (length floats) f0)
+    × (countersAfterDrawing (drawAnswer d (lent mask ink)) counters ≡ replicate (length counters) 0)
 
 abbrev pub ShownLaying : Laying → List ℕ → List ℕ → List ℕ → Type 0
 ShownLaying l cells other after =
-    (layAnswer l (lent cells) (length other) ≡ Done) × (maskAfterLaying (layAnswer l (lent cells) (length other)) l cells other ≡ after)
+    (layAnswer l (lent cells ink) (length other) ≡ Done) × (maskAfterLaying (layAnswer l (lent cells ink) (length other)) l cells other ≡ after)
 
 abbrev pub Shown : Example → Type 0
 Shown (draws words cells) = ShownDrawing (drawing (row 2) words floats counters) cells

@@ -4,7 +4,7 @@ use mathlib.Core.Path.{_≡_, refl, ap, _∙_}
 use mathlib.Core.Bool.{Bool, true, false, _||_}
 use mathlib.Core.Logic.{_⊎_, inl, inr}
 use mathlib.Core.List.{List, []}
-use Prim.Native.Nat.{ℕ, _≤_, _<_}
+use Prim.Native.Nat.{ℕ, _<_}
 use lib.Dec.{ltb}
 use borrow.Author.Tests.{ltb-true, ltb-false, lt-ltb, le-ltb}
 use Rattle.fault.specs.declared.Fault.{Fault}
@@ -13,11 +13,13 @@ use Rattle.word_list.specs.Words.{Group, pointsIn, Read, ok, fault, readWords}
 use Rattle.word_list.specs.Writer.{wordsOf, Allowed}
 use Rattle.word_list.proofs.RoundTrip.{reads-what-is-written}
 use Rattle.list_fault.proofs.ListFault.{list-fault as list-fault-law}
-use Rattle.cells.specs.Cells.{cellsOf, tooLarge, SizeAllowed}
+use Rattle.cells.specs.Cells.{tooLarge, SizeAllowed}
 use Rattle.cells.proofs.Sizes.{or-true, size-allowed, size-large, allowed-small, large-test}
+use Rattle.ink.specs.Lent.{Lent, lentShort, LentEnough}
+use Rattle.ink.proofs.Lent.{lent-enough, lent-short as short-told, enough-test, short-test}
 use Rattle.coverage.specs.Scratch.{floatsNeeded, countersNeeded}
-use Rattle.mask.specs.Calls.{Lent, Drawing, drawAnswer}
-use Rattle.mask.specs.Laws.{CanDraw, FirstCause, too-large, mask-short, list-fault, scratch-short, DoneExactlyWhen, RefusedExactlyWhen}
+use Rattle.mask.specs.Calls.{Drawing, drawAnswer}
+use Rattle.mask.specs.Laws.{CanDraw, FirstCause, too-large, lent-short, list-fault, scratch-short, DoneExactlyWhen, RefusedExactlyWhen}
 use Rattle.mask.specs.declared.Outcome.the-variants.{Done, Refused}
 use Rattle.mask.proofs.Decided.{Decided, done-only, refused-only}
 
@@ -31,7 +33,7 @@ module _ (d : Drawing) (lent : Lent) where
   abbrev Told : Type 0
   Told = Decided (CanDraw d lent) (FirstCause d lent)
 
-  by-scratch : SizeAllowed (d .size) → cellsOf (d .size) ≤ lent .mask → (gs : List Group) → Allowed gs → d .words ≡ wordsOf gs → Told
+  by-scratch : SizeAllowed (d .size) → LentEnough (d .size) lent → (gs : List Group) → Allowed gs → d .words ≡ wordsOf gs → Told
   by-scratch s m gs a w = go (ltb (d .floats) floats) (ltb (d .counters) counters) refl refl
     where
       floats : ℕ
@@ -45,7 +47,7 @@ module _ (d : Drawing) (lent : Lent) where
       go false true h k = inr (BufferTooShort, scratch-short s m gs a w (inr (ltb-true (d .counters) counters k)))
       go false false h k = inl (record {
         size-allowed = s;
-        cells = m;
+        enough = m;
         groups = gs;
         written = w;
         allowed = a;
@@ -53,17 +55,17 @@ module _ (d : Drawing) (lent : Lent) where
         counters = ltb-false (d .counters) counters k;
       })
 
-  by-list : SizeAllowed (d .size) → cellsOf (d .size) ≤ lent .mask → (r : Read (List Group)) → readWords (d .words) ≡ r → Told
+  by-list : SizeAllowed (d .size) → LentEnough (d .size) lent → (r : Read (List Group)) → readWords (d .words) ≡ r → Told
   by-list s m (fault f) q = inr (f, list-fault s m (list-fault-law .only (d .words) f q))
   by-list s m (ok gs rest) q = let w = reads-what-is-written .forth (d .words) gs rest q in by-scratch s m gs (w .2) (w .1)
 
   pub decided : Told
-  decided = go (tooLarge (d .size)) (ltb (lent .mask) (cellsOf (d .size))) refl refl
+  decided = go (tooLarge (d .size)) (lentShort (d .size) lent) refl refl
     where
-      go : (p q : Bool) → tooLarge (d .size) ≡ p → ltb (lent .mask) (cellsOf (d .size)) ≡ q → Told
+      go : (p q : Bool) → tooLarge (d .size) ≡ p → lentShort (d .size) lent ≡ q → Told
       go true q h k = inr (MaskTooLarge, too-large (size-large (d .size) h))
-      go false true h k = inr (BufferTooShort, mask-short (size-allowed (d .size) h) (ltb-true (lent .mask) (cellsOf (d .size)) k))
-      go false false h k = by-list (size-allowed (d .size) h) (ltb-false (lent .mask) (cellsOf (d .size)) k) (readWords (d .words)) refl
+      go false true h k = inr (BufferTooShort, lent-short (size-allowed (d .size) h) (short-told (d .size) lent k))
+      go false false h k = by-list (size-allowed (d .size) h) (lent-enough (d .size) lent k) (readWords (d .words)) refl
 
   -- ---- and tells the answer
 
@@ -72,7 +74,7 @@ module _ (d : Drawing) (lent : Lent) where
       let r : readWords (d .words) ≡ ok (c .groups) [] = ap readWords (c .written) ∙ reads-what-is-written .back (c .groups) (c .allowed) in
       rw (
         allowed-small (d .size) (c .size-allowed),
-        le-ltb (lent .mask) (cellsOf (d .size)) (c .cells),
+        enough-test (d .size) lent (c .enough),
         r,
         le-ltb (d .floats) (floatsNeeded (d .size) (pointsIn (c .groups))) (c .floats),
         le-ltb (d .counters) (countersNeeded (d .size)) (c .counters),
@@ -80,12 +82,12 @@ module _ (d : Drawing) (lent : Lent) where
 
   pub cannot-draw : (f : Fault) → FirstCause d lent f → drawAnswer d lent ≡ Refused f
   cannot-draw f (too-large h) = rw (large-test (d .size) h) refl
-  cannot-draw f (mask-short s m) = rw (allowed-small (d .size) s, lt-ltb (lent .mask) (cellsOf (d .size)) m) refl
-  cannot-draw f (list-fault s m h) = rw (allowed-small (d .size) s, le-ltb (lent .mask) (cellsOf (d .size)) m, list-fault-law .always (d .words) f h) refl
+  cannot-draw f (lent-short s m) = rw (allowed-small (d .size) s, short-test (d .size) lent m) refl
+  cannot-draw f (list-fault s m h) = rw (allowed-small (d .size) s, enough-test (d .size) lent m, list-fault-law .always (d .words) f h) refl
   cannot-draw f (scratch-short s m gs a w h) =
       let r : readWords (d .words) ≡ ok gs [] = ap readWords w ∙ reads-what-is-written .back gs a in
       let short = short-true (d .floats) (floatsNeeded (d .size) (pointsIn gs)) (d .counters) (countersNeeded (d .size)) h in
-      rw (allowed-small (d .size) s, le-ltb (lent .mask) (cellsOf (d .size)) m, r, short) refl
+      rw (allowed-small (d .size) s, enough-test (d .size) lent m, r, short) refl
 
 pub done-exactly-when : DoneExactlyWhen
 done-exactly-when = record { only = λ d lent. done-only (can-draw d lent) (cannot-draw d lent) (decided d lent); always = can-draw }

@@ -1,20 +1,21 @@
 -- When a laying-on is done, and why it is refused (specs/Laws.antt, LaidExactlyWhen). Assumes nothing.
 use mathlib.Core.Path.{_≡_, refl}
-use mathlib.Core.Bool.{Bool, true, false}
-use mathlib.Core.Logic.{inl, inr}
-use Prim.Native.Nat.{ℕ}
+use mathlib.Core.Bool.{Bool, true, false, _||_}
+use mathlib.Core.Logic.{_⊎_, inl, inr}
+use Prim.Native.Nat.{ℕ, _<_}
 use lib.Dec.{ltb}
-use borrow.Author.Tests.{ltb-true, ltb-false, le-ltb}
+use borrow.Author.Tests.{ltb-true, ltb-false, lt-ltb, le-ltb}
 use Rattle.fault.specs.declared.Fault.{Fault}
 use Rattle.fault.specs.declared.Fault.the-variants.{MaskTooLarge, BufferTooShort}
 use Rattle.cells.specs.Cells.{cellsOf, tooLarge}
 use Rattle.cells.proofs.Sizes.{or-true, size-allowed, size-large, allowed-small, large-test}
+use Rattle.ink.specs.Lent.{Lent, lentShort, LentShort}
+use Rattle.ink.proofs.Lent.{lent-enough, lent-short, enough-test, short-test}
 use Rattle.laying.specs.Laying.{Laying}
-use Rattle.mask.specs.Calls.{Lent, layAnswer}
+use Rattle.mask.specs.Calls.{layAnswer}
 use Rattle.mask.specs.Laws.{CanLay, FirstLayCause, either-too-large, either-short, LaidExactlyWhen}
 use Rattle.mask.specs.declared.Outcome.the-variants.{Done, Refused}
 use Rattle.mask.proofs.Decided.{Decided, done-only, refused-only}
-use Rattle.mask.proofs.Causes.{short-true}
 
 module _ (l : Laying) (lent : Lent) (other : ℕ) where
   abbrev Told : Type 0
@@ -23,14 +24,14 @@ module _ (l : Laying) (lent : Lent) (other : ℕ) where
   -- one of the two is so
   pub decided : Told
   decided =
-      go (tooLarge (l .size)) (tooLarge (l .otherSize)) (ltb (lent .mask) (cellsOf (l .size))) (ltb other (cellsOf (l .otherSize))) refl refl refl refl
+      go (tooLarge (l .size)) (tooLarge (l .otherSize)) (lentShort (l .size) lent) (ltb other (cellsOf (l .otherSize))) refl refl refl refl
     where
-      go : (a b c d : Bool) → tooLarge (l .size) ≡ a → tooLarge (l .otherSize) ≡ b → ltb (lent .mask) (cellsOf (l .size)) ≡ c
+      go : (a b c d : Bool) → tooLarge (l .size) ≡ a → tooLarge (l .otherSize) ≡ b → lentShort (l .size) lent ≡ c
           → ltb other (cellsOf (l .otherSize)) ≡ d → Told
       go true b c d e f g h = inr (MaskTooLarge, either-too-large (inl (size-large (l .size) e)))
       go false true c d e f g h = inr (MaskTooLarge, either-too-large (inr (size-large (l .otherSize) f)))
       go false false true d e f g h =
-          let short = inl (ltb-true (lent .mask) (cellsOf (l .size)) g) in
+          let short = inl (lent-short (l .size) lent g) in
           inr (BufferTooShort, either-short (size-allowed (l .size) e) (size-allowed (l .otherSize) f) short)
       go false false false true e f g h =
           let short = inr (ltb-true other (cellsOf (l .otherSize)) h) in
@@ -38,7 +39,7 @@ module _ (l : Laying) (lent : Lent) (other : ℕ) where
       go false false false false e f g h = inl (record {
         size-allowed = size-allowed (l .size) e;
         other-allowed = size-allowed (l .otherSize) f;
-        cells = ltb-false (lent .mask) (cellsOf (l .size)) g;
+        enough = lent-enough (l .size) lent g;
         other-cells = ltb-false other (cellsOf (l .otherSize)) h;
       })
 
@@ -47,7 +48,7 @@ module _ (l : Laying) (lent : Lent) (other : ℕ) where
       rw (
         allowed-small (l .size) (c .size-allowed),
         allowed-small (l .otherSize) (c .other-allowed),
-        le-ltb (lent .mask) (cellsOf (l .size)) (c .cells),
+        enough-test (l .size) lent (c .enough),
         le-ltb other (cellsOf (l .otherSize)) (c .other-cells),
       ) refl
 
@@ -55,8 +56,11 @@ module _ (l : Laying) (lent : Lent) (other : ℕ) where
   cannot-lay f (either-too-large (inl h)) = rw (large-test (l .size) h) refl
   cannot-lay f (either-too-large (inr h)) = rw (large-test (l .otherSize) h, or-true (tooLarge (l .size))) refl
   cannot-lay f (either-short s o h) =
-      let short = short-true (lent .mask) (cellsOf (l .size)) other (cellsOf (l .otherSize)) h in
-      rw (allowed-small (l .size) s, allowed-small (l .otherSize) o, short) refl
+      rw (allowed-small (l .size) s, allowed-small (l .otherSize) o, short h) refl
+    where
+      short : LentShort (l .size) lent ⊎ (other < cellsOf (l .otherSize)) → (lentShort (l .size) lent || ltb other (cellsOf (l .otherSize))) ≡ true
+      short (inl h) = rw (short-test (l .size) lent h) refl
+      short (inr h) = rw (lt-ltb other (cellsOf (l .otherSize)) h) (or-true (lentShort (l .size) lent))
 
 pub laid-exactly-when : LaidExactlyWhen
 laid-exactly-when = record {

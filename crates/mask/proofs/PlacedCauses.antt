@@ -12,8 +12,9 @@ use Rattle.cells.specs.Cells.{tooLarge, SizeAllowed}
 use Rattle.cells.specs.Corner.{cornerOut, CornerOut, CornerAllowed}
 use Rattle.cells.proofs.Sizes.{or-true, size-allowed, size-large, allowed-small, large-test}
 use Rattle.cells.proofs.Corners.{corner-allowed, corner-out, allowed-in, out-test}
+use Rattle.ink.specs.Lent.{Lent}
 use Rattle.laying.specs.Placed.{Placed, byOffset}
-use Rattle.mask.specs.Calls.{Lent, layAnswer, layPlacedAnswer}
+use Rattle.mask.specs.Calls.{layAnswer, layPlacedAnswer}
 use Rattle.mask.specs.Laws.{CanLay, FirstLayCause, either-too-large, either-short, CanLayPlaced, FirstPlacedCause, placed-too-large, corner-out as out-cause, placed-short}
 use Rattle.mask.specs.Laws.{LaidPlacedExactlyWhen, PlacedIsByOffset}
 use Rattle.mask.specs.Steps.{cornersCheck}

@@ -18,8 +18,9 @@ use Rattle.words.proofs.Steps.{scan-at}
 use Rattle.cells.specs.declared.Size.{Size}
 use Rattle.cells.specs.Cells.{cellsOf, SizeAllowed}
 use Rattle.cells.proofs.Sizes.{cells-long}
+use Rattle.ink.specs.Lent.{Lent, LentEnough}
 use Rattle.coverage.specs.Scratch.{floatsNeeded, countersNeeded, Room}
-use Rattle.mask.specs.Calls.{Lent, Drawing}
+use Rattle.mask.specs.Calls.{Drawing}
 use Rattle.mask.specs.Laws.{CanDraw, FirstCause, scratch-short}
 use Rattle.groups.specs.Steps.{ListCounted}
 
@@ -41,7 +42,7 @@ written ws l =
     let w = reads-what-is-written .forth ws (groupsOf ws) (r .0) (r .1) in
     (w .1, w .2)
 
-module _ (d : Drawing) (lent : Lent) {points : ℕ} (s : SizeAllowed (d .size)) (m : cellsOf (d .size) ≤ lent .mask) (l : ListCounted (d .words) points) where
+module _ (d : Drawing) (lent : Lent) {points : ℕ} (s : SizeAllowed (d .size)) (m : LentEnough (d .size) lent) (l : ListCounted (d .words) points) where
   pub floats-short : d .floats < floatsNeeded (d .size) points → FirstCause d lent BufferTooShort
   floats-short h = let w = written (d .words) l in let c = l .count in scratch-short s m (groupsOf (d .words)) (w .1) (w .0) (inl (omega arith))
 
@@ -52,7 +53,7 @@ module _ (d : Drawing) (lent : Lent) {points : ℕ} (s : SizeAllowed (d .size)) 
   scratch-enough h k =
       let w = written (d .words) l in
       let c = l .count in
-      record { size-allowed = s; cells = m; groups = groupsOf (d .words); written = w .0; allowed = w .1; floats = omega arith; counters = k }
+      record { size-allowed = s; enough = m; groups = groupsOf (d .words); written = w .0; allowed = w .1; floats = omega arith; counters = k }
 
 -- there is room to draw
 pub room-there : {size : Size} {points : ℕ} (mask : List ℕ) {fs : List Float} {cs : List ℕ} → SizeAllowed size → points ≤ 2048 → cellsOf size ≤ length mask

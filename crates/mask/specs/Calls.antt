@@ -1,5 +1,5 @@
 -- The calls on masks, outright: what each answers, and all that was lent to it afterwards (document 01, 'What a call
--- hands back' and 'The masks'; document 02, change 8). Definitions only.
+-- hands back' and 'The masks'; document 02, changes 8 and 9). Definitions only.
 use Prim.Native.Nat.{ℕ}
 use mathlib.Core.Bool.{Bool, cond, _||_}
 use mathlib.Core.List.{List, _++_}
@@ -14,6 +14,8 @@ use Rattle.word_list.specs.Words.{Group, pointsIn, Read, ok, fault, readWords, 
 use Rattle.cells.specs.declared.Size.{Size}
 use Rattle.cells.specs.Cells.{cellsOf, tooLarge}
 use Rattle.cells.specs.Corner.{cornerOut}
+use Rattle.ink.specs.Ink.{inkAfter}
+use Rattle.ink.specs.Lent.{Lent, lentShort}
 use Rattle.coverage.specs.Drawing.{drawingOf}
 use Rattle.coverage.specs.Scratch.{floatsNeeded, countersNeeded}
 use Rattle.laying.specs.Laying.{Laying, layingOf}
@@ -29,14 +31,8 @@ outcomeNumber (Refused f) = numberOf f
 
 -- ---- what a call is given
 
--- the length of what is lent to be written as a mask
-pub record Lent : Type 0 where
-  pub mask : ℕ
-
-abbrev pub lent : List ℕ → Lent
-lent mask = record { mask = length mask }
-
--- what a drawing is given beside the mask: its size, the words, and how many floats and counters are lent as scratch
+-- what a drawing is given beside the mask and its ink (ink/specs/Lent.antt): its size, the words, and how many floats and
+-- counters are lent as scratch
 pub record Drawing : Type 0 where
   pub size : Size
   pub words : List ℤ
@@ -52,8 +48,8 @@ drawing size words floats counters = record { size = size; words = words; floats
 abbrev pub scratchShort : Drawing → List Group → Bool
 scratchShort d gs = ltb (d .floats) (floatsNeeded (d .size) (pointsIn gs)) || ltb (d .counters) (countersNeeded (d .size))
 
--- 'Order when drawing: 3, then 4 for the mask, then the list from its first word (5, 6 or 7 at the first word at fault;
--- ..), then 4 for scratch.'
+-- 'Order when drawing: 3, then 4 for the mask' (and for its ink: document 02, change 9, 'with the mask'), 'then the list from
+-- its first word (5, 6 or 7 at the first word at fault; ..), then 4 for scratch.'
 abbrev pub listAnswer : Drawing → Read (List Group) → Outcome
 listAnswer d (fault f) = Refused f
 listAnswer d (ok gs rest) = cond (scratchShort d gs) (Refused BufferTooShort) Done
@@ -61,7 +57,7 @@ listAnswer d (ok gs rest) = cond (scratchShort d gs) (Refused BufferTooShort) Do
 abbrev pub drawAnswer : Drawing → Lent → Outcome
 drawAnswer d lent =
     cond (tooLarge (d .size)) (Refused MaskTooLarge)
-    (cond (ltb (lent .mask) (cellsOf (d .size))) (Refused BufferTooShort) (listAnswer d (readWords (d .words))))
+    (cond (lentShort (d .size) lent) (Refused BufferTooShort) (listAnswer d (readWords (d .words))))
 
 -- what is lent, afterwards: 'Left as it was: all lent' where the call is turned away
 
@@ -81,11 +77,11 @@ countersAfterDrawing (Refused f) counters = counters
 
 -- ---- laying one mask on another
 
--- 'Laying on: 3, 4.' For an other mask of so many bytes
+-- 'Laying on: 3, 4.' For an other mask of so many bytes; it lends no ink
 abbrev pub layAnswer : Laying → Lent → ℕ → Outcome
 layAnswer l lent other =
     cond (tooLarge (l .size) || tooLarge (l .otherSize)) (Refused MaskTooLarge)
-    (cond (ltb (lent .mask) (cellsOf (l .size)) || ltb other (cellsOf (l .otherSize))) (Refused BufferTooShort) Done)
+    (cond (lentShort (l .size) lent || ltb other (cellsOf (l .otherSize))) (Refused BufferTooShort) Done)
 
 abbrev pub maskAfterLaying : Outcome → Laying → List ℕ → List ℕ → List ℕ
 maskAfterLaying Done l mask other = layingOf l mask other ++ drop (cellsOf (l .size)) mask
@@ -99,4 +95,12 @@ abbrev pub layPlacedAnswer : Placed → Lent → ℕ → Outcome
 layPlacedAnswer p lent other =
     cond (tooLarge (p .own .size) || tooLarge (p .other .size)) (Refused MaskTooLarge)
     (cond (cornerOut (p .own .corner) || cornerOut (p .other .corner)) (Refused CornerOutOfRange)
-    (cond (ltb (lent .mask) (cellsOf (p .own .size)) || ltb other (cellsOf (p .other .size))) (Refused BufferTooShort) Done))
+    (cond (lentShort (p .own .size) lent || ltb other (cellsOf (p .other .size))) (Refused BufferTooShort) Done))
+
+-- ---- ink, beside the mask that a call writes (document 02, change 9)
+
+-- 'After each done drawing, laying on .. it equals what a scan of the mask finds, no matter what it held before. After a
+-- turned-away call it is unaltered.' The mask is as the call leaves it
+abbrev pub inkAfterCall : Outcome → Size → List ℕ → List ℕ → List ℕ
+inkAfterCall Done size mask ink = inkAfter size mask ink
+inkAfterCall (Refused f) size mask ink = ink

@@ -16,10 +16,12 @@ use Rattle.word_list.specs.Writer.{wordsOf, Allowed}
 use Rattle.list_fault.specs.ListFault.{FaultOf}
 use Rattle.cells.specs.Cells.{cellsOf, TooLarge, SizeAllowed}
 use Rattle.cells.specs.Corner.{CornerOut, CornerAllowed}
+use Rattle.ink.specs.Lent.{Lent, lent as lentOf, LentShort, LentEnough}
+use Rattle.ink.specs.Print.{PrintsTheMask}
 use Rattle.coverage.specs.Scratch.{floatsNeeded, countersNeeded}
 use Rattle.laying.specs.Laying.{Laying}
 use Rattle.laying.specs.Placed.{Placed, byOffset}
-use Rattle.mask.specs.Calls.{Lent, Drawing, outcomeNumber, drawAnswer, maskAfterDrawing, layAnswer, layPlacedAnswer}
+use Rattle.mask.specs.Calls.{Drawing, outcomeNumber, drawAnswer, maskAfterDrawing, layAnswer, maskAfterLaying, layPlacedAnswer, inkAfterCall}
 use Rattle.mask.specs.declared.Outcome.{Outcome}
 use Rattle.mask.specs.declared.Outcome.the-variants.{Done, Refused}
 
@@ -29,7 +31,7 @@ use Rattle.mask.specs.declared.Outcome.the-variants.{Done, Refused}
 -- writing of allowed groups
 pub record CanDraw (d : Drawing) (lent : Lent) : Type 0 where
   pub size-allowed : SizeAllowed (d .size)
-  pub cells : cellsOf (d .size) ≤ lent .mask
+  pub enough : LentEnough (d .size) lent
   pub groups : List Group
   pub written : d .words ≡ wordsOf groups
   pub allowed : Allowed groups
@@ -41,17 +43,17 @@ pub record DoneExactlyWhen : Type 0 where
   pub only : (d : Drawing) (lent : Lent) → drawAnswer d lent ≡ Done → CanDraw d lent
   pub always : (d : Drawing) (lent : Lent) → CanDraw d lent → drawAnswer d lent ≡ Done
 
--- Why a drawing is refused with a fault, in document 01's order: 'Order when drawing: 3, then 4 for the mask, then the
--- list from its first word (5, 6 or 7 ..), then 4 for scratch.' Each cause is given with none before it. The fault of a
+-- Why a drawing is refused with a fault, in document 01's order: 'Order when drawing: 3, then 4 for the mask' (and, by
+-- document 02, change 9, for its ink with it), 'then the list from its first word (5, 6 or 7 ..), then 4 for scratch.' Each cause is given with none before it. The fault of a
 -- list is said without the reading (list_fault/specs/ListFault.antt)
 abbrev pub ScratchShort : Drawing → List Group → Type 0
 ScratchShort d gs = (d .floats < floatsNeeded (d .size) (pointsIn gs)) ⊎ (d .counters < countersNeeded (d .size))
 
 pub data FirstCause (d : Drawing) (lent : Lent) : Fault → Type 0 where
   too-large : TooLarge (d .size) → FirstCause d lent MaskTooLarge
-  mask-short : SizeAllowed (d .size) → lent .mask < cellsOf (d .size) → FirstCause d lent BufferTooShort
-  list-fault : {f : Fault} → SizeAllowed (d .size) → cellsOf (d .size) ≤ lent .mask → FaultOf (d .words) f → FirstCause d lent f
-  scratch-short : SizeAllowed (d .size) → cellsOf (d .size) ≤ lent .mask → (gs : List Group) → Allowed gs → d .words ≡ wordsOf gs
+  lent-short : SizeAllowed (d .size) → LentShort (d .size) lent → FirstCause d lent BufferTooShort
+  list-fault : {f : Fault} → SizeAllowed (d .size) → LentEnough (d .size) lent → FaultOf (d .words) f → FirstCause d lent f
+  scratch-short : SizeAllowed (d .size) → LentEnough (d .size) lent → (gs : List Group) → Allowed gs → d .words ≡ wordsOf gs
       → ScratchShort d gs → FirstCause d lent BufferTooShort
 
 -- a drawing is refused with a fault exactly when that is its first cause
@@ -75,13 +77,13 @@ SameCells = (d : Drawing) (mask other : List ℕ) → cellsOf (d .size) ≤ leng
 pub record CanLay (l : Laying) (lent : Lent) (other : ℕ) : Type 0 where
   pub size-allowed : SizeAllowed (l .size)
   pub other-allowed : SizeAllowed (l .otherSize)
-  pub cells : cellsOf (l .size) ≤ lent .mask
+  pub enough : LentEnough (l .size) lent
   pub other-cells : cellsOf (l .otherSize) ≤ other
 
 -- why it is refused, in document 01's order: 'Laying on: 3, 4.'
 pub data FirstLayCause (l : Laying) (lent : Lent) (other : ℕ) : Fault → Type 0 where
   either-too-large : TooLarge (l .size) ⊎ TooLarge (l .otherSize) → FirstLayCause l lent other MaskTooLarge
-  either-short : SizeAllowed (l .size) → SizeAllowed (l .otherSize) → (lent .mask < cellsOf (l .size)) ⊎ (other < cellsOf (l .otherSize))
+  either-short : SizeAllowed (l .size) → SizeAllowed (l .otherSize) → LentShort (l .size) lent ⊎ (other < cellsOf (l .otherSize))
       → FirstLayCause l lent other BufferTooShort
 
 pub record LaidExactlyWhen : Type 0 where
@@ -104,7 +106,7 @@ pub data FirstPlacedCause (p : Placed) (lent : Lent) (other : ℕ) : Fault → T
   corner-out : SizeAllowed (p .own .size) → SizeAllowed (p .other .size) → CornerOut (p .own .corner) ⊎ CornerOut (p .other .corner)
       → FirstPlacedCause p lent other CornerOutOfRange
   placed-short : SizeAllowed (p .own .size) → SizeAllowed (p .other .size) → CornerAllowed (p .own .corner) → CornerAllowed (p .other .corner)
-      → (lent .mask < cellsOf (p .own .size)) ⊎ (other < cellsOf (p .other .size)) → FirstPlacedCause p lent other BufferTooShort
+      → LentShort (p .own .size) lent ⊎ (other < cellsOf (p .other .size)) → FirstPlacedCause p lent other BufferTooShort
 
 pub record LaidPlacedExactlyWhen : Type 0 where
   pub done-only : (p : Placed) (lent : Lent) (other : ℕ) → layPlacedAnswer p lent other ≡ Done → CanLayPlaced p lent other
@@ -119,6 +121,21 @@ pub record PlacedIsByOffset : Type 0 where
       → layPlacedAnswer p lent other ≡ layAnswer (byOffset p) lent other
   pub beyond : (p : Placed) (lent : Lent) (other : ℕ) → CornerOut (p .own .corner) ⊎ CornerOut (p .other .corner)
       → (layPlacedAnswer p lent other ≡ Refused MaskTooLarge) ⊎ (layPlacedAnswer p lent other ≡ Refused CornerOutOfRange)
+
+-- ---- ink (document 02, change 9)
+
+-- 'A print loop that sends only those stretches onto blank paper prints the same cells as one that sends every byte', by
+-- the numbers that each done call leaves
+pub record DonePrints : Type 0 where
+  pub drawn : (d : Drawing) (mask ink : List ℕ) → drawAnswer d (lentOf mask ink) ≡ Done →
+      let after = maskAfterDrawing Done d mask in
+      PrintsTheMask (d .size) after (inkAfterCall Done (d .size) after ink)
+  pub laid : (l : Laying) (mask ink other : List ℕ) → layAnswer l (lentOf mask ink) (length other) ≡ Done →
+      let after = maskAfterLaying Done l mask other in
+      PrintsTheMask (l .size) after (inkAfterCall Done (l .size) after ink)
+  pub laid-placed : (p : Placed) (mask ink other : List ℕ) → layPlacedAnswer p (lentOf mask ink) (length other) ≡ Done →
+      let after = maskAfterLaying Done (byOffset p) mask other in
+      PrintsTheMask (p .own .size) after (inkAfterCall Done (p .own .size) after ink)
 
 -- ---- the same in the documents' numbers ('Where an answer is an enum, the promises use a definition that gives this
 -- paper's number'): 0 where the call can be done, else that of its first cause

@@ -8,6 +8,7 @@ use Rattle.fault.specs.declared.Check.the-variants as check
 use Rattle.cells.specs.declared.Size.{Size}
 use Rattle.cells.specs.Cells.{tooLarge}
 use Rattle.cells.specs.Corner.{cornerOut}
+use Rattle.ink.specs.Lent.{Lent}
 use Rattle.laying.specs.declared.Offset.{Offset}
 use Rattle.laying.specs.Laying.{laying}
 use Rattle.laying.specs.Placed.{Placed}
@@ -21,8 +22,8 @@ outcomeOf check.Pass = Done
 outcomeOf (check.Refused f) = Refused f
 
 -- a check that tells the answer of a laying-on, whatever its offset, from the sizes and the lengths of what is lent
-pub record LayChecked (size : Size) (length : ℕ) (otherSize : Size) (otherLength : ℕ) (c : Check) : Type 0 where
-  pub tells : (offset : Offset) → layAnswer (laying size otherSize offset) (record { mask = length }) otherLength ≡ outcomeOf c
+pub record LayChecked (size : Size) (lent : Lent) (otherSize : Size) (otherLength : ℕ) (c : Check) : Type 0 where
+  pub tells : (offset : Offset) → layAnswer (laying size otherSize offset) lent otherLength ≡ outcomeOf c
 
 -- what a laying-on by corners is refused for before the laying-on by the offset between them: 3, then 16
 abbrev pub cornersCheck : Placed → Check

@@ -8,6 +8,7 @@ use lib.ListN.{length, take, drop, length-append}
 use lib.Seq.{take-at, length-take-le}
 use Rattle.cells.specs.declared.Size.{Size}
 use Rattle.cells.specs.Cells.{cellsOf, SizeAllowed}
+use Rattle.ink.specs.Lent.{lent}
 use Rattle.pgm_reader.specs.Reading.{isSpace, isDigit, valueOf}
 use Rattle.pgm_reader.specs.Laws.{All, Spaces, Digits, FieldIs, HeaderIs}
 use Rattle.pgm_writer.specs.Text.{HasCells, blank, closing, decimal, headerText, pgmOf}
@@ -83,7 +84,7 @@ module _ (size : Size) (cells : List ℕ) where
       record { header = header; size-allowed = s; exactly = e }
 
 pub round-trip : RoundTrip
-round-trip size mask file other n e fits =
+round-trip size mask file other ink n e fits =
     let w = written-exactly-when .done-only size (length mask) (length file) n e in
     let can = w .0 in
     let cells = take (cellsOf size) mask in
@@ -91,6 +92,6 @@ round-trip size mask file other n e fits =
     let k : length (pgmOf size cells) ≡ n = (let m = w .1 in omega (arith, length-append (headerText size) cells)) in
     let front : take n (pgmOf size cells ++ drop n file) ≡ pgmOf size cells = take-at (pgmOf size cells) (drop n file) n k in
     let taken = written-taken size cells (can .has-cells) (can .size-allowed) l in (
-      ap (λ (x : List ℕ). readCall x (length other)) front ∙ done taken (length other) fits,
+      ap (λ (x : List ℕ). readCall x (lent other ink)) front ∙ done taken (lent other ink) fits,
       ap (λ (x : List ℕ). maskAfterReading (read.Read (recordRead size)) x other) front ∙ cells-read taken other,
     )

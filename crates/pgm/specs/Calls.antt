@@ -1,5 +1,5 @@
 -- The calls on PGM files, outright: what each answers, and all that was lent to it afterwards (document 02, change 4,
--- 'Masks as PGM files', and change 8). Definitions only.
+-- 'Masks as PGM files', and changes 8 and 9). Definitions only.
 use Prim.Native.Nat.{ℕ, _+_}
 use mathlib.Core.Bool.{Bool, cond, not, _||_}
 use mathlib.Core.List.{List, [], _++_}
@@ -13,6 +13,8 @@ use Rattle.cells.specs.declared.Size.{Size}
 use Rattle.cells.specs.declared.MaskRecord.{MaskRecord}
 use Rattle.cells.specs.Cells.{cellsOf, tooLarge}
 use Rattle.cells.specs.Corner.{sheetOrigin}
+use Rattle.ink.specs.Ink.{inkAfter}
+use Rattle.ink.specs.Lent.{Lent, lentShort}
 use Rattle.pgm_reader.specs.Reading.{Read, ok, bad, Head, readHeader}
 use Rattle.pgm_writer.specs.Text.{headerText, pgmOf}
 use Rattle.pgm.specs.declared.WriteAnswer.{WriteAnswer}
@@ -48,28 +50,29 @@ fileAfter (write.Refused f) size mask file = file
 
 -- ---- reading
 
--- 'the order is 13 field by field, 14, 3, 15, 4': those behind a header, of a raster and a mask of so many bytes
-abbrev pub readCheck : Head → ℕ → ℕ → Check
-readCheck h raster mask =
+-- 'the order is 13 field by field, 14, 3, 15, 4': those behind a header, of a raster of so many bytes. 4 is for the mask,
+-- and for its ink 'with the mask' (change 9)
+abbrev pub readCheck : Head → ℕ → Lent → Check
+readCheck h raster lent =
     cond (not (eqb (h .depth) 255)) (check.Refused WrongDepth)
     (cond (tooLarge (h .size)) (check.Refused MaskTooLarge)
     (cond (not (eqb raster (cellsOf (h .size)))) (check.Refused WrongRaster)
-    (cond (ltb mask (cellsOf (h .size))) (check.Refused BufferTooShort) check.Pass)))
+    (cond (lentShort (h .size) lent) (check.Refused BufferTooShort) check.Pass)))
 
 -- 'A mask read from PGM stands at (0, 0).'
 abbrev pub recordRead : Size → MaskRecord
 recordRead size = record { size = size; corner = sheetOrigin }
 
-abbrev pub rasterCall : Head → ℕ → ℕ → ReadAnswer
-rasterCall h raster mask = answerUnless read.Refused (readCheck h raster mask) (read.Read (recordRead (h .size)))
+abbrev pub rasterCall : Head → ℕ → Lent → ReadAnswer
+rasterCall h raster lent = answerUnless read.Refused (readCheck h raster lent) (read.Read (recordRead (h .size)))
 
 -- number 13 where there is no header
-abbrev pub headCall : Read Head → ℕ → ReadAnswer
-headCall bad mask = read.Refused NotPgm
-headCall (ok h raster) mask = rasterCall h (length raster) mask
+abbrev pub headCall : Read Head → Lent → ReadAnswer
+headCall bad lent = read.Refused NotPgm
+headCall (ok h raster) lent = rasterCall h (length raster) lent
 
-abbrev pub readCall : List ℕ → ℕ → ReadAnswer
-readCall file mask = headCall (readHeader file) mask
+abbrev pub readCall : List ℕ → Lent → ReadAnswer
+readCall file lent = headCall (readHeader file) lent
 
 -- the bytes behind the header
 abbrev pub rasterIn : Read Head → List ℕ
@@ -83,3 +86,9 @@ rasterOver (read.Refused f) raster mask = mask
 
 abbrev pub maskAfterReading : ReadAnswer → List ℕ → List ℕ → List ℕ
 maskAfterReading r file mask = rasterOver r (rasterIn (readHeader file)) mask
+
+-- the ink afterwards (change 9): 'After each done .. PGM reading it equals what a scan of the mask finds, no matter what it
+-- held before. After a turned-away call it is unaltered.' The mask is as the call leaves it
+abbrev pub inkAfterReading : ReadAnswer → List ℕ → List ℕ → List ℕ
+inkAfterReading (read.Read r) mask ink = inkAfter (r .size) mask ink
+inkAfterReading (read.Refused f) mask ink = ink

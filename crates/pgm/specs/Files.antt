@@ -5,10 +5,12 @@ use mathlib.Core.Path.{_≡_}
 use mathlib.Core.List.{List, [], _∷_, _++_}
 use lib.IntN.{pos}
 use lib.ListN.{length}
+use Rattle.fault.specs.declared.Fault.{Fault}
 use Rattle.fault.specs.declared.Fault.the-variants.{MaskTooLarge, BufferTooShort, NotPgm, WrongDepth, WrongRaster}
 use Rattle.cells.specs.declared.Size.{Size}
+use Rattle.ink.specs.Lent.{lent}
 use Rattle.pgm_writer.specs.Text.{headerText}
-use Rattle.pgm.specs.Calls.{writeCall, fileAfter, readCall, maskAfterReading}
+use Rattle.pgm.specs.Calls.{writeCall, fileAfter, readCall, maskAfterReading, inkAfterReading}
 use Rattle.pgm.specs.declared.WriteAnswer.{WriteAnswer}
 use Rattle.pgm.specs.declared.WriteAnswer.the-variants as write
 use Rattle.pgm.specs.declared.ReadAnswer.{ReadAnswer}
@@ -61,8 +63,13 @@ small = mark ++ lf ++ d1 ++ sp ++ d1 ++ lf
 abbrev pub m9 : List ℕ
 m9 = 9 ∷ []
 
-abbrev pub Reads : List ℕ → List ℕ → ReadAnswer → List ℕ → Type 0
-Reads file mask answer after = (readCall file (length mask) ≡ answer) × (maskAfterReading answer file mask ≡ after)
+-- and ink for its row, 6 and 6
+abbrev pub i66 : List ℕ
+i66 = 6 ∷ 6 ∷ []
+
+abbrev pub Reads : List ℕ → List ℕ → List ℕ → ReadAnswer → List ℕ → List ℕ → Type 0
+Reads file mask ink answer after inked =
+    (readCall file (lent mask ink) ≡ answer) × ((maskAfterReading answer file mask ≡ after) × (inkAfterReading answer after ink ≡ inked))
 
 abbrev pub by : ℕ → ℕ → Size
 by width height = record { width = width; height = height }
@@ -71,13 +78,17 @@ by width height = record { width = width; height = height }
 abbrev pub oneByOne : ReadAnswer
 oneByOne = read.Read (record { size = by 1 1; corner = record { x = pos 0; y = pos 0 } })
 
--- of this cell
+-- of this cell, which has ink
 abbrev pub Cell : List ℕ → ℕ → Type 0
-Cell file byte = Reads file m9 oneByOne (byte ∷ [])
+Cell file byte = Reads file m9 i66 oneByOne (byte ∷ []) (0 ∷ 1 ∷ [])
+
+-- refused: 'Left as it was: all lent'
+abbrev pub Refuses : List ℕ → List ℕ → List ℕ → Fault → Type 0
+Refuses file mask ink fault = Reads file mask ink (read.Refused fault) mask ink
 
 -- refused with 13
 abbrev pub Not : List ℕ → Type 0
-Not file = Reads file m9 (read.Refused NotPgm) m9
+Not file = Refuses file m9 i66 NotPgm
 
 abbrev pub Writes : Size → List ℕ → List ℕ → WriteAnswer → List ℕ → Type 0
 Writes size mask file answer after = (writeCall size (length mask) (length file) ≡ answer) × (fileAfter answer size mask file ≡ after)
@@ -93,7 +104,9 @@ pub record Files : Type 0 where
   pub any-whitespace : Cell (mark ++ (32 ∷ 9 ∷ 13 ∷ 10 ∷ []) ++ d1 ++ lf ++ lf ++ d1 ++ sp ++ d255 ++ sp ++ c7) 7
   pub cell-of-line-feed : Cell (small ++ d255 ++ lf ++ lf) 10
   pub cell-of-number-sign : Cell (small ++ d255 ++ lf ++ (35 ∷ [])) 35
-  pub past-the-cells : Reads (small ++ d255 ++ lf ++ c7) (9 ∷ 8 ∷ []) oneByOne (7 ∷ 8 ∷ [])
+  pub past-the-cells : Reads (small ++ d255 ++ lf ++ c7) (9 ∷ 8 ∷ []) i66 oneByOne (7 ∷ 8 ∷ []) (0 ∷ 1 ∷ [])
+  pub cell-without-ink : Reads (small ++ d255 ++ lf ++ (0 ∷ [])) m9 i66 oneByOne (0 ∷ []) (0 ∷ 0 ∷ [])
+  pub past-the-last-row : Reads (small ++ d255 ++ lf ++ c7) m9 (6 ∷ 6 ∷ 5 ∷ []) oneByOne c7 (0 ∷ 1 ∷ 5 ∷ [])
   -- 13
   pub nothing : Not []
   pub one-byte : Not (80 ∷ [])
@@ -112,18 +125,20 @@ pub record Files : Type 0 where
   pub wrong-depth-and-letter : Not (small ++ d254 ++ (120 ∷ []))
   pub zero-before-depth : Not (mark ++ lf ++ (48 ∷ []) ++ sp ++ d1 ++ lf ++ d254 ++ lf)
   -- 14
-  pub wrong-depth : Reads (small ++ d254 ++ lf) m9 (read.Refused WrongDepth) m9
-  pub depth-of-zero : Reads (small ++ (48 ∷ []) ++ lf ++ c7) m9 (read.Refused WrongDepth) m9
-  pub depth-before-size : Reads (mark ++ lf ++ d4097 ++ sp ++ d1 ++ lf ++ d254 ++ lf) m9 (read.Refused WrongDepth) m9
+  pub wrong-depth : Refuses (small ++ d254 ++ lf) m9 i66 WrongDepth
+  pub depth-of-zero : Refuses (small ++ (48 ∷ []) ++ lf ++ c7) m9 i66 WrongDepth
+  pub depth-before-size : Refuses (mark ++ lf ++ d4097 ++ sp ++ d1 ++ lf ++ d254 ++ lf) m9 i66 WrongDepth
   -- 3
-  pub size-before-raster : Reads (mark ++ lf ++ d4097 ++ sp ++ d1 ++ lf ++ d255 ++ lf) m9 (read.Refused MaskTooLarge) m9
-  pub nine-nines : Reads (mark ++ lf ++ nines ++ sp ++ nines ++ lf ++ d255 ++ lf) [] (read.Refused MaskTooLarge) []
+  pub size-before-raster : Refuses (mark ++ lf ++ d4097 ++ sp ++ d1 ++ lf ++ d255 ++ lf) m9 i66 MaskTooLarge
+  pub nine-nines : Refuses (mark ++ lf ++ nines ++ sp ++ nines ++ lf ++ d255 ++ lf) [] [] MaskTooLarge
   -- 15
-  pub no-raster : Reads (small ++ d255 ++ lf) m9 (read.Refused WrongRaster) m9
-  pub two-bytes-after-depth : Reads (small ++ d255 ++ (13 ∷ 10 ∷ []) ++ c7) m9 (read.Refused WrongRaster) m9
-  pub raster-before-mask : Reads (mark ++ lf ++ (50 ∷ []) ++ sp ++ d1 ++ lf ++ d255 ++ lf ++ c7) [] (read.Refused WrongRaster) []
+  pub no-raster : Refuses (small ++ d255 ++ lf) m9 i66 WrongRaster
+  pub two-bytes-after-depth : Refuses (small ++ d255 ++ (13 ∷ 10 ∷ []) ++ c7) m9 i66 WrongRaster
+  pub raster-before-mask : Refuses (mark ++ lf ++ (50 ∷ []) ++ sp ++ d1 ++ lf ++ d255 ++ lf ++ c7) [] i66 WrongRaster
+  pub raster-before-ink : Refuses (small ++ d255 ++ lf) m9 (6 ∷ []) WrongRaster
   -- 4
-  pub no-mask : Reads (small ++ d255 ++ lf ++ c7) [] (read.Refused BufferTooShort) []
+  pub no-mask : Refuses (small ++ d255 ++ lf ++ c7) [] i66 BufferTooShort
+  pub ink-one-short : Refuses (small ++ d255 ++ lf ++ c7) m9 (6 ∷ []) BufferTooShort
   -- written
   pub writes : Writes (by 1 1) c7 (nine11 ++ (9 ∷ 8 ∷ [])) (write.Written 12) (small ++ d255 ++ lf ++ c7 ++ (8 ∷ []))
   pub file-one-short : Writes (by 1 1) c7 nine11 (write.Refused BufferTooShort) nine11

@@ -1,5 +1,5 @@
--- What document 02, changes 4 and 8, says of PGM files as a whole, stated of the definitions in Calls.antt. Proved in
--- proofs/Writing.antt, Reading.antt, Decimal.antt and RoundTrip.antt.
+-- What document 02, changes 4, 8 and 9, says of PGM files as a whole, stated of the definitions in Calls.antt. Proved in
+-- proofs/Writing.antt, Reading.antt, Decimal.antt, RoundTrip.antt and Prints.antt.
 use mathlib.Core.Path.{_≡_}
 use mathlib.Core.Logic.{_⊎_}
 use mathlib.Core.List.{List, _++_}
@@ -12,10 +12,12 @@ use Rattle.cells.specs.declared.Size.{Size}
 use Rattle.cells.specs.declared.MaskRecord.{MaskRecord}
 use Rattle.cells.specs.Cells.{cellsOf, TooLarge, SizeAllowed}
 use Rattle.cells.specs.Corner.{sheetOrigin}
+use Rattle.ink.specs.Lent.{Lent, lent as lentOf, LentShort, LentEnough}
+use Rattle.ink.specs.Print.{PrintsTheMask}
 use Rattle.pgm_reader.specs.Reading.{valueOf}
 use Rattle.pgm_reader.specs.Laws.{Digits, HeaderIs}
 use Rattle.pgm_writer.specs.Text.{HasCells, decimal}
-use Rattle.pgm.specs.Calls.{fileLength, writeCall, fileAfter, recordRead, readCall, maskAfterReading}
+use Rattle.pgm.specs.Calls.{fileLength, writeCall, fileAfter, recordRead, readCall, maskAfterReading, inkAfterReading}
 use Rattle.pgm.specs.declared.WriteAnswer.the-variants as write
 use Rattle.pgm.specs.declared.ReadAnswer.the-variants as read
 
@@ -63,24 +65,31 @@ pub record Taken (file : List ℕ) (size : Size) (raster : List ℕ) : Type 0 wh
 
 -- Why a reading is refused, 'the order is 13 field by field, 14, 3, 15, 4', each with none before it. Said without the
 -- reading: a header is one of pgm_reader/specs/Laws.antt
-pub data FirstReadCause (file : List ℕ) (mask : ℕ) : Fault → Type 0 where
-  no-header : ((size : Size) (depth : ℕ) (raster : List ℕ) → HeaderIs file size depth raster → ⊥) → FirstReadCause file mask NotPgm
-  wrong-depth : (size : Size) (depth : ℕ) (raster : List ℕ) → HeaderIs file size depth raster → (depth ≡ 255 → ⊥) → FirstReadCause file mask WrongDepth
-  too-large : (size : Size) (raster : List ℕ) → HeaderIs file size 255 raster → TooLarge size → FirstReadCause file mask MaskTooLarge
+pub data FirstReadCause (file : List ℕ) (lent : Lent) : Fault → Type 0 where
+  no-header : ((size : Size) (depth : ℕ) (raster : List ℕ) → HeaderIs file size depth raster → ⊥) → FirstReadCause file lent NotPgm
+  wrong-depth : (size : Size) (depth : ℕ) (raster : List ℕ) → HeaderIs file size depth raster → (depth ≡ 255 → ⊥) → FirstReadCause file lent WrongDepth
+  too-large : (size : Size) (raster : List ℕ) → HeaderIs file size 255 raster → TooLarge size → FirstReadCause file lent MaskTooLarge
   wrong-raster : (size : Size) (raster : List ℕ) → HeaderIs file size 255 raster → SizeAllowed size → (length raster ≡ cellsOf size → ⊥)
-      → FirstReadCause file mask WrongRaster
-  mask-short : (size : Size) (raster : List ℕ) → Taken file size raster → mask < cellsOf size → FirstReadCause file mask BufferTooShort
+      → FirstReadCause file lent WrongRaster
+  lent-short : (size : Size) (raster : List ℕ) → Taken file size raster → LentShort size lent → FirstReadCause file lent BufferTooShort
 
--- a file is read exactly when it is taken and the mask has room for its cells, which are then the mask's; 'A mask read
--- from PGM stands at (0, 0)'; it is refused exactly for its first cause
+-- a file is read exactly when it is taken and there is room for its cells, which are then the mask's, and for its ink; 'A
+-- mask read from PGM stands at (0, 0)'; it is refused exactly for its first cause
 pub record ReadExactlyWhen : Type 0 where
-  pub done-only : (file : List ℕ) (r : MaskRecord) (mask : ℕ) → readCall file mask ≡ read.Read r
-      → (raster : List ℕ) × (Taken file (r .size) raster × ((cellsOf (r .size) ≤ mask) × (r .corner ≡ sheetOrigin)))
-  pub done-always : (file : List ℕ) (size : Size) (raster : List ℕ) (mask : ℕ) → Taken file size raster → cellsOf size ≤ mask
-      → readCall file mask ≡ read.Read (recordRead size)
+  pub done-only : (file : List ℕ) (r : MaskRecord) (lent : Lent) → readCall file lent ≡ read.Read r
+      → (raster : List ℕ) × (Taken file (r .size) raster × (LentEnough (r .size) lent × (r .corner ≡ sheetOrigin)))
+  pub done-always : (file : List ℕ) (size : Size) (raster : List ℕ) (lent : Lent) → Taken file size raster → LentEnough size lent
+      → readCall file lent ≡ read.Read (recordRead size)
   pub cells : (file : List ℕ) (size : Size) (raster mask : List ℕ) → Taken file size raster
       → maskAfterReading (read.Read (recordRead size)) file mask ≡ raster ++ drop (cellsOf size) mask
-  pub refused : (file : List ℕ) (mask : ℕ) → ForItsFirstCause read.Refused (readCall file mask) (FirstReadCause file mask)
+  pub refused : (file : List ℕ) (lent : Lent) → ForItsFirstCause read.Refused (readCall file lent) (FirstReadCause file lent)
+
+-- 'A print loop that sends only those stretches onto blank paper prints the same cells as one that sends every byte'
+-- (change 9), by the numbers that a done reading leaves
+abbrev pub ReadPrints : Type 0
+ReadPrints = (file mask ink : List ℕ) (r : MaskRecord) → readCall file (lentOf mask ink) ≡ read.Read r →
+    let after = maskAfterReading (read.Read r) file mask in
+    PrintsTheMask (r .size) after (inkAfterReading (read.Read r) after ink)
 
 -- ---- both
 
@@ -88,9 +97,10 @@ pub record ReadExactlyWhen : Type 0 where
 abbrev pub written : Size → List ℕ → List ℕ → ℕ → List ℕ
 written size mask file n = take n (fileAfter (write.Written n) size mask file)
 
--- 'A mask that has cells, once written, reads to the same size and cells', into another mask that has room for them
+-- 'A mask that has cells, once written, reads to the same size and cells', into another mask that has room for them, its
+-- ink beside it
 abbrev pub RoundTrip : Type 0
 RoundTrip =
-    (size : Size) (mask file other : List ℕ) (n : ℕ) → writeCall size (length mask) (length file) ≡ write.Written n → cellsOf size ≤ length other
-    → (readCall (written size mask file n) (length other) ≡ read.Read (recordRead size))
+    (size : Size) (mask file other ink : List ℕ) (n : ℕ) → writeCall size (length mask) (length file) ≡ write.Written n → LentEnough size (lentOf other ink)
+    → (readCall (written size mask file n) (lentOf other ink) ≡ read.Read (recordRead size))
     × (maskAfterReading (read.Read (recordRead size)) (written size mask file n) other ≡ take (cellsOf size) mask ++ drop (cellsOf size) other)

@@ -1,6 +1,7 @@
 // The calls on PGM files, from a line to its answer.
-use buffers::AfterCall;
+use buffers::Lengths;
 use buffers::MOST_BYTES;
+use buffers::MOST_INK;
 use cells::Size;
 use fields::MOST_LINE;
 use fields::Problem;
@@ -24,63 +25,78 @@ pub fn write_pgm(
     at: usize,
     buffer: &[u8; MOST_BYTES],
     length: usize,
-) -> AfterCall {
+) -> Problem {
     let width = fields::size_at(line, at);
     let height = fields::size_at(line, width.at);
     let room = fields::size_at(line, height.at);
     if !width.good || !height.good || !room.good {
-        return buffers::left(length, Problem::NotANumber);
+        return Problem::NotANumber;
     }
     if room.value > MOST_BYTES {
-        return buffers::left(length, Problem::BufferTooLong);
+        return Problem::BufferTooLong;
     }
     let Problem::Nothing = fields::at_end(line, room.at) else {
-        return buffers::left(length, Problem::FieldTooMany);
+        return Problem::FieldTooMany;
     };
     let size = Size {
         width: width.value,
         height: height.value,
     };
     let mut file = [7u8; MOST_BYTES];
-    buffers::left(
-        length,
-        write_lent(buffer, length, size, &mut file, room.value),
-    )
+    write_lent(buffer, length, size, &mut file, room.value)
 }
 
-// Reads what is lent of a file into what is lent of a mask, and answers.
-fn read_lent(file: &[u8], lent: usize, mask: &mut [u8], mask_lent: usize) -> Problem {
-    if lent > file.len() {
+// Reads what is lent of a file into what is lent of a mask and its ink, and answers.
+fn read_lent(
+    file: &[u8],
+    file_lent: usize,
+    mask: &mut [u8],
+    ink: &mut [u16],
+    lent: Lengths,
+) -> Problem {
+    let cells = lent.mask;
+    let numbers = lent.ink;
+    if file_lent > file.len() {
         return Problem::BufferTooLong;
     }
-    if mask_lent > mask.len() {
+    if cells > mask.len() {
         return Problem::BufferTooLong;
     }
-    answers::read(pgm::read_pgm(&file[0..lent], &mut mask[0..mask_lent]));
+    if numbers > ink.len() {
+        return Problem::InkTooLong;
+    }
+    answers::read(pgm::read_pgm(
+        &file[0..file_lent],
+        &mut mask[0..cells],
+        &mut ink[0..numbers],
+    ));
     Problem::Nothing
 }
 
+// The same of whole arrays.
 fn read_file(
     file: &[u8; MOST_BYTES],
-    lent: usize,
+    file_lent: usize,
     buffer: &mut [u8; MOST_BYTES],
-    length: usize,
-) -> AfterCall {
-    buffers::left(length, read_lent(file, lent, buffer, length))
+    ink: &mut [u16; MOST_INK],
+    lent: Lengths,
+) -> Problem {
+    read_lent(file, file_lent, buffer, ink, lent)
 }
 
-// Reads a file into a buffer.
+// Reads a file into a buffer and its ink.
 pub fn read_pgm(
     line: &[u8; MOST_LINE],
     at: usize,
     buffer: &mut [u8; MOST_BYTES],
-    length: usize,
-) -> AfterCall {
+    ink: &mut [u16; MOST_INK],
+    lengths: Lengths,
+) -> Problem {
     let mut file = [0u8; MOST_BYTES];
     let bytes = buffers::read_bytes(line, at, &mut file);
     let problem = bytes.problem;
     let Problem::Nothing = problem else {
-        return buffers::left(length, problem);
+        return problem;
     };
-    read_file(&file, bytes.length, buffer, length)
+    read_file(&file, bytes.count, buffer, ink, lengths)
 }

@@ -6,15 +6,14 @@ use mathlib.Core.List.{List}
 use Prim.Native.Nat.{ℕ, _≤_, _<_}
 use native.Mathlib.Omega.{arith}
 use lib.Dec.{ltb}
-use lib.ListN.{length}
 use borrow.Author.Tests.{ltb-true, ltb-false, lt-ltb, le-ltb}
 use Rattle.fault.specs.declared.Fault.{Fault}
 use Rattle.fault.specs.declared.Fault.the-variants.{BufferTooShort}
 use Rattle.cells.specs.declared.Size.{Size}
 use Rattle.cells.specs.declared.MaskRecord.{MaskRecord}
-use Rattle.cells.specs.Cells.{cellsOf}
 use Rattle.cells.specs.Corner.{sheetOrigin}
 use Rattle.cells.proofs.Sizes.{or-true}
+use Rattle.ink.specs.Lent.{Lent, LentEnough}
 use Rattle.pgm.specs.declared.ReadAnswer.{ReadAnswer}
 use Rattle.pgm.specs.declared.ReadAnswer.the-variants as read
 use Rattle.pgm.specs.Calls.{recordRead, readCall}
@@ -47,42 +46,42 @@ enough-told size corner = go (ltb size 2) refl
     go true e h = absurd (true≢false h)
     go false e h = (ltb-false size 2 e, ltb-false corner 2 h)
 
-module _ (file mask : List ℕ) (size corner : ℕ) where
+module _ (file : List ℕ) (lent : Lent) (size corner : ℕ) where
   abbrev short : Bool
   short = ltb size 2 || ltb corner 2
 
-  done-only : (r : MaskRecord) → readLent file mask size corner ≡ read.Read r
-      → (raster : List ℕ) × (Taken file (r .size) raster × ((cellsOf (r .size) ≤ length mask) × ((2 ≤ size) × ((2 ≤ corner) × (r .corner ≡ sheetOrigin)))))
-  done-only r = go short (readCall file (length mask)) refl refl
+  done-only : (r : MaskRecord) → readLent file lent size corner ≡ read.Read r
+      → (raster : List ℕ) × (Taken file (r .size) raster × (LentEnough (r .size) lent × ((2 ≤ size) × ((2 ≤ corner) × (r .corner ≡ sheetOrigin)))))
+  done-only r = go short (readCall file lent) refl refl
     where
-      go : (t : Bool) (a : ReadAnswer) → short ≡ t → readCall file (length mask) ≡ a → recordShort t a ≡ read.Read r
-          → (raster : List ℕ) × (Taken file (r .size) raster × ((cellsOf (r .size) ≤ length mask) × ((2 ≤ size) × ((2 ≤ corner) × (r .corner ≡ sheetOrigin)))))
+      go : (t : Bool) (a : ReadAnswer) → short ≡ t → readCall file lent ≡ a → recordShort t a ≡ read.Read r
+          → (raster : List ℕ) × (Taken file (r .size) raster × (LentEnough (r .size) lent × ((2 ≤ size) × ((2 ≤ corner) × (r .corner ≡ sheetOrigin)))))
       go true (read.Read z) l q e = let y : _≡_ {A = ℕ} 0 1 = cc in absurd (omega arith)
       go true (read.Refused f) l q e = let y : _≡_ {A = ℕ} 0 1 = cc in absurd (omega arith)
       go false a l q e =
-          let d = read-exactly-when .done-only file r (length mask) (q ∙ e) in
+          let d = read-exactly-when .done-only file r lent (q ∙ e) in
           let n = enough-told size corner l in
           (d .0, (d .1 .0, (d .1 .1 .0, (n .0, (n .1, d .1 .1 .1)))))
 
-  done-always : (s : Size) (raster : List ℕ) → Taken file s raster → cellsOf s ≤ length mask → 2 ≤ size → 2 ≤ corner → readLent file mask size corner ≡ read.Read (recordRead s)
-  done-always s raster t h l m = rw (le-ltb size 2 l, le-ltb corner 2 m) (read-exactly-when .done-always file s raster (length mask) t h)
+  done-always : (s : Size) (raster : List ℕ) → Taken file s raster → LentEnough s lent → 2 ≤ size → 2 ≤ corner → readLent file lent size corner ≡ read.Read (recordRead s)
+  done-always s raster t h l m = rw (le-ltb size 2 l, le-ltb corner 2 m) (read-exactly-when .done-always file s raster lent t h)
 
-  always : (f : Fault) → FirstLentCause file (length mask) size corner f → readLent file mask size corner ≡ read.Refused f
-  always f (of-file c) = rw (read-exactly-when .refused file (length mask) .always f c) (still-refused short f)
-  always f (record-short s raster t h l) = rw (short-true size corner l, read-exactly-when .done-always file s raster (length mask) t h) refl
+  always : (f : Fault) → FirstLentCause file lent size corner f → readLent file lent size corner ≡ read.Refused f
+  always f (of-file c) = rw (read-exactly-when .refused file lent .always f c) (still-refused short f)
+  always f (record-short s raster t h l) = rw (short-true size corner l, read-exactly-when .done-always file s raster lent t h) refl
 
-  only : (f : Fault) → readLent file mask size corner ≡ read.Refused f → FirstLentCause file (length mask) size corner f
-  only f = go short (readCall file (length mask)) refl refl
+  only : (f : Fault) → readLent file lent size corner ≡ read.Refused f → FirstLentCause file lent size corner f
+  only f = go short (readCall file lent) refl refl
     where
-      by-file : (g : Fault) → readCall file (length mask) ≡ read.Refused g → g ≡ f → FirstLentCause file (length mask) size corner f
-      by-file g q e = subst (FirstLentCause file (length mask) size corner) e (of-file (read-exactly-when .refused file (length mask) .only g q))
+      by-file : (g : Fault) → readCall file lent ≡ read.Refused g → g ≡ f → FirstLentCause file lent size corner f
+      by-file g q e = subst (FirstLentCause file lent size corner) e (of-file (read-exactly-when .refused file lent .only g q))
 
-      go : (t : Bool) (a : ReadAnswer) → short ≡ t → readCall file (length mask) ≡ a → recordShort t a ≡ read.Refused f
-          → FirstLentCause file (length mask) size corner f
+      go : (t : Bool) (a : ReadAnswer) → short ≡ t → readCall file lent ≡ a → recordShort t a ≡ read.Refused f
+          → FirstLentCause file lent size corner f
       go true (read.Read r) l q e =
-          let d = read-exactly-when .done-only file r (length mask) q in
+          let d = read-exactly-when .done-only file r lent q in
           let same : BufferTooShort ≡ f = cc in
-          subst (FirstLentCause file (length mask) size corner) same (record-short (r .size) (d .0) (d .1 .0) (d .1 .1 .0) (short-told size corner l))
+          subst (FirstLentCause file lent size corner) same (record-short (r .size) (d .0) (d .1 .0) (d .1 .1 .0) (short-told size corner l))
       go true (read.Refused g) l q e = by-file g q cc
       go false (read.Read r) l q e = let y : _≡_ {A = ℕ} 0 1 = cc in absurd (omega arith)
       go false (read.Refused g) l q e = by-file g q cc
@@ -91,5 +90,5 @@ pub read-lent-exactly-when : ReadLentExactlyWhen
 read-lent-exactly-when = record {
   done-only = done-only;
   done-always = done-always;
-  refused = λ file mask size corner. record { only = only file mask size corner; always = always file mask size corner };
+  refused = λ file lent size corner. record { only = only file lent size corner; always = always file lent size corner };
 }

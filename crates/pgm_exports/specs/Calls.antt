@@ -7,10 +7,11 @@ use lib.Dec.{ltb}
 use lib.ListN.{length}
 use Rattle.fault.specs.declared.Fault.the-variants.{BufferTooShort}
 use Rattle.cells.specs.declared.Size.{Size}
+use Rattle.ink.specs.Lent.{Lent, lent}
 use Rattle.pgm.specs.declared.WriteAnswer.{WriteAnswer}
 use Rattle.pgm.specs.declared.ReadAnswer.{ReadAnswer}
 use Rattle.pgm.specs.declared.ReadAnswer.the-variants as read
-use Rattle.pgm.specs.Calls.{writeCall, fileAfter, readCall}
+use Rattle.pgm.specs.Calls.{writeCall, fileAfter, readCall, maskAfterReading, inkAfterReading}
 
 -- ---- writing: a size is two plain numbers here
 
@@ -33,5 +34,12 @@ recordShort true (read.Refused f) = read.Refused f
 recordShort false answer = answer
 
 -- for so many numbers, fewer than two for either
-abbrev pub readLent : List ℕ → List ℕ → ℕ → ℕ → ReadAnswer
-readLent file mask size corner = recordShort (ltb size 2 || ltb corner 2) (readCall file (length mask))
+abbrev pub readLent : List ℕ → Lent → ℕ → ℕ → ReadAnswer
+readLent file lent size corner = recordShort (ltb size 2 || ltb corner 2) (readCall file lent)
+
+-- what a reading leaves of the mask, and of its ink
+abbrev pub maskRead : List ℕ → List ℕ → List ℕ → ℕ → ℕ → List ℕ
+maskRead file mask ink size corner = maskAfterReading (readLent file (lent mask ink) size corner) file mask
+
+abbrev pub inkRead : List ℕ → List ℕ → List ℕ → ℕ → ℕ → List ℕ
+inkRead file mask ink size corner = inkAfterReading (readLent file (lent mask ink) size corner) (maskRead file mask ink size corner) ink

@@ -8,7 +8,8 @@ use Rattle.laying.specs.Laying.{Laying}
 use Rattle.laying.specs.Placed.{placed}
 use Rattle.mask.specs.declared.Outcome.{Outcome}
 use Rattle.mask.specs.declared.Outcome.the-variants.{Done, Refused}
-use Rattle.mask.specs.Calls.{Lent, Drawing, drawAnswer}
+use Rattle.ink.specs.Lent.{Lent}
+use Rattle.mask.specs.Calls.{Drawing, drawAnswer}
 use Rattle.mask.proofs.Causes.{can-draw}
 use Rattle.mask.proofs.PlacedCauses.{can-lay-placed}
 use Rattle.reckoner.specs.Reckoner.{Cell, Held, Place, running, next, Two, of, put, recordOf, atFirst, drawnHeld, alone, meets, laidHeld, laidPlaced}
@@ -28,7 +29,7 @@ module _ (lengths : Two Lent) where
     lay-done f c = can-lay-placed (placed (recordGiven first) (recordGiven f)) (lengths .atRunning) (lengths .atNext .mask) (record {
       corner-allowed = can .1;
       other-corner-allowed = c .1;
-      can-lay = record { size-allowed = can .0 .size-allowed; other-allowed = c .0 .size-allowed; cells = can .0 .cells; other-cells = c .0 .cells };
+      can-lay = record { size-allowed = can .0 .size-allowed; other-allowed = c .0 .size-allowed; enough = can .0 .enough; other-cells = c .0 .enough .cells };
     })
 
     others-meant : (fs : List DrawingAt) → AllPlaced (lengths .atNext) fs → (held : Two Held) → recordGiven first ≡ recordOf (held .atRunning)

@@ -9,7 +9,8 @@ use Rattle.cells.specs.declared.Corner.{Corner}
 use Rattle.cells.specs.declared.MaskRecord.{MaskRecord}
 use Rattle.mask.specs.declared.Outcome.{Outcome}
 use Rattle.mask.specs.declared.Outcome.the-variants.{Done, Refused}
-use Rattle.mask.specs.Calls.{Lent, Drawing, drawAnswer}
+use Rattle.ink.specs.Lent.{Lent}
+use Rattle.mask.specs.Calls.{Drawing, drawAnswer}
 use Rattle.reckoner.specs.Reckoner.{Held, Place, running, next, Two, of, put, recordOf, atFirst, drawnHeld, laidHeld, laidPlaced}
 use Rattle.reckoner.specs.Reckoner.{Call, draw, lay, layPlaced, answer, step, reckoned}
 use Rattle.reckoner.specs.LastGiven.{NotDrawn, NoneDrawn, noneGiven, LastGiven, never, last, HeldIsLastGiven}

@@ -2,7 +2,8 @@
 use mathlib.Core.Path.{_≡_, refl, ap₂}
 use mathlib.Core.List.{List, [], _∷_}
 use Prim.Native.Nat.{ℕ}
-use Rattle.mask.specs.Calls.{Lent, outcomeNumber}
+use Rattle.ink.specs.Lent.{Lent}
+use Rattle.mask.specs.Calls.{outcomeNumber}
 use Rattle.mask.proofs.Numbers.{numbers-exactly-when}
 use Rattle.reckoner.specs.Reckoner.{Two, of, Call, draw, lay, layPlaced, answer, answers}
 use Rattle.reckoner.specs.Claim.{CallNumber, CallNumbers, numbers}

@@ -3,9 +3,9 @@
 use mathlib.Core.Path.{_≡_, refl, sym, ap, ap₂, _∙_}
 use mathlib.Core.List.{List, [], _∷_}
 use Rattle.mask.specs.declared.Outcome.{Outcome}
-use Rattle.mask.specs.Calls.{Drawing, lent, drawAnswer, maskAfterDrawing}
+use Rattle.mask.specs.Calls.{Drawing, drawAnswer}
 use Rattle.reckoner.specs.Reckoner.{of, put, Call, draw, lay, layPlaced}
-use Rattle.reckoner.specs.Claim.{Buffers, Scratch, ScratchFor, Scratches, given, answered, buffersAfter, allAnswered, buffersAfterAll}
+use Rattle.reckoner.specs.Claim.{Buffers, lentOf, drawnOn, Scratch, ScratchFor, Scratches, given, answered, buffersAfter, allAnswered, buffersAfterAll}
 
 -- a call is given the scratch's lengths alone
 pub given-is : {d : Drawing} (s : Scratch d) → given d s ≡ d
@@ -15,12 +15,12 @@ same-given : {d : Drawing} (s t : Scratch d) → given d s ≡ given d t
 same-given s t = given-is s ∙ sym (given-is t)
 
 one-answer : (b : Buffers) (c : Call) (s t : ScratchFor c) → answered b c s ≡ answered b c t
-one-answer b (draw p corner d) s t = ap (λ (e : Drawing). drawAnswer e (lent (of p b))) (same-given s t)
+one-answer b (draw p corner d) s t = ap (λ (e : Drawing). drawAnswer e (lentOf (of p b))) (same-given s t)
 one-answer b (lay l) s t = refl
 one-answer b (layPlaced q) s t = refl
 
 one-after : (b : Buffers) (c : Call) (s t : ScratchFor c) → buffersAfter b c s ≡ buffersAfter b c t
-one-after b (draw p corner d) s t = ap (λ (e : Drawing). put p (maskAfterDrawing (drawAnswer e (lent (of p b))) e (of p b)) b) (same-given s t)
+one-after b (draw p corner d) s t = ap (λ (e : Drawing). put p (drawnOn (drawAnswer e (lentOf (of p b))) e (of p b)) b) (same-given s t)
 one-after b (lay l) s t = refl
 one-after b (layPlaced q) s t = refl
 

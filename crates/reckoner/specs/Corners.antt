@@ -10,7 +10,8 @@ use Rattle.laying.specs.Laying.{Laying}
 use Rattle.laying.specs.Placed.{placed}
 use Rattle.mask.specs.declared.Outcome.{Outcome}
 use Rattle.mask.specs.declared.Outcome.the-variants.{Done}
-use Rattle.mask.specs.Calls.{Lent, Drawing}
+use Rattle.ink.specs.Lent.{Lent}
+use Rattle.mask.specs.Calls.{Drawing}
 use Rattle.mask.specs.Laws.{CanDraw}
 use Rattle.reckoner.specs.Reckoner.{Held, Place, running, next, Two, of, atFirst, Call, draw, lay, layPlaced, answers, reckoned, Meant}
 use Rattle.reckoner.specs.Claim.{Buffers, Scratches, buffersAfterAll}

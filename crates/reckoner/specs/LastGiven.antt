@@ -7,7 +7,8 @@ use lib.IntN.{pos}
 use Rattle.cells.specs.declared.Corner.{Corner}
 use Rattle.cells.specs.declared.MaskRecord.{MaskRecord}
 use Rattle.mask.specs.declared.Outcome.the-variants.{Done}
-use Rattle.mask.specs.Calls.{Lent, Drawing, drawAnswer}
+use Rattle.ink.specs.Lent.{Lent}
+use Rattle.mask.specs.Calls.{Drawing, drawAnswer}
 use Rattle.reckoner.specs.Reckoner.{Place, Two, of, recordOf, atFirst, Call, draw, answer, reckoned}
 
 -- a call that is no done drawing of the running, or of the next mask; and that none of a list is

@@ -1,7 +1,8 @@
--- The reckoner (document 01, 'The reckoner'; document 02, change 8), in exact fractions. It is given the arguments of the
--- calls and, of masks and scratch, the lengths only. Of the engine's definitions it takes the table of causes
--- (mask/specs/Calls.antt), how a word list is read (word_list/specs/Words.antt) and the offset between two corners
--- (laying/specs/Placed.antt); no float enters. Definitions only.
+-- The reckoner (document 01, 'The reckoner'; document 02, changes 8 and 9), in exact fractions. It is given the arguments
+-- of the calls and, of masks, their ink and scratch, the lengths only ('the reckoner is given its length too'). Of the
+-- engine's definitions it takes the table of causes (mask/specs/Calls.antt), how a word list is read
+-- (word_list/specs/Words.antt) and the offset between two corners (laying/specs/Placed.antt); no float enters.
+-- Definitions only.
 use Prim.Native.Nat.{ℕ}
 use mathlib.Core.Path.{_≡_}
 use mathlib.Core.Bool.{cond, _&&_}
@@ -20,7 +21,8 @@ use Rattle.laying.specs.Laying.{Laying}
 use Rattle.laying.specs.Placed.{Placed, offsetBetween}
 use Rattle.mask.specs.declared.Outcome.{Outcome}
 use Rattle.mask.specs.declared.Outcome.the-variants.{Done, Refused}
-use Rattle.mask.specs.Calls.{Lent, Drawing, drawAnswer, layAnswer, layPlacedAnswer}
+use Rattle.ink.specs.Lent.{Lent}
+use Rattle.mask.specs.Calls.{Drawing, drawAnswer, layAnswer, layPlacedAnswer}
 
 -- ---- what is held
 
@@ -113,7 +115,7 @@ pub data Call : Type 0 where
   -- the same by their corners
   layPlaced : Placed → Call
 
--- the answer that the table of causes and its order give, for mask buffers of these lengths
+-- the answer that the table of causes and its order give, for mask buffers and ink of these lengths
 abbrev pub answer : Two Lent → Call → Outcome
 answer lengths (draw p corner d) = drawAnswer d (of p lengths)
 answer lengths (lay l) = layAnswer l (lengths .atRunning) (lengths .atNext .mask)

@@ -10,7 +10,7 @@ use native.Mathlib.Omega.{arith}
 use lib.Count.{trailingZeros}
 use lib.Dec.{T}
 use lib.ListN.{length, getD, set, take, drop, replicate, length-append, length-take, length-drop, length-map, length-set, drop-of-length-le, take-append-drop}
-use lib.Seq.{drop-cons, drop-set-lt, take-at, drop-at, take-all, take-suc-set}
+use lib.Seq.{drop-cons, drop-set-lt, take-at, drop-at, take-all, take-suc-set, length-take-le, getD-append-add, getD-drop, getD-set-other}
 use lib.Ieee.{Float, nan, binary32, fits, eq, lt, isNan, rem, mul, add, sub, sum, round, units, odd, size, span, climb, toUnsigned, ofBits, ofFields}
 use Rattle.float.specs.Ops.{f0, _⊕_}
 use Rattle.float.specs.Simple.{absOf, minOf}
@@ -32,6 +32,20 @@ unchanged (x ∷ l) h =
 
 pub filled-none : (from to by : ℕ) (line : List ℕ) → to ≤ from → line ≡ filledOf from to by line
 filled-none from to by line h = let e : to - from ≡ 0 = omega arith in rw e (sym (take-append-drop from line))
+
+-- .. and behind the filled bytes a line is as it was
+filled-past : (from to by : ℕ) (line : List ℕ) (k : ℕ) → from ≤ to → to ≤ length line → to ≤ k → getD (filledOf from to by line) k 0 ≡ getD line k 0
+filled-past from to by line k h g p =
+    let front = take from line in
+    let part = map (plusOf by) (take (to - from) (drop from line)) in
+    let rest = drop (to - from) (drop from line) in
+    let n : length front ≡ from = length-take-le from line (omega arith) in
+    let m : length part ≡ to - from = simp (length-map, length-take, length-drop) (omega arith) in
+    let i : k ≡ length front + (length part + (k - to)) = omega arith in
+    let j : from + (to - from + (k - to)) ≡ k = omega arith in
+    ap (λ (c : ℕ). getD (filledOf from to by line) c 0) i ∙ getD-append-add front (part ++ rest) (length part + (k - to)) 0
+    ∙ getD-append-add part rest (k - to) 0 ∙ getD-drop (to - from) (drop from line) (k - to) 0 ∙ getD-drop from line (to - from + (k - to)) 0
+    ∙ ap (λ (c : ℕ). getD line c 0) j
 
 add-run : (m b : ℕ) (bs l : List ℕ) → m ≤ length l → addBytes l (replicate m b ++ bs) ≡ map (plusOf b) (take m l) ++ addBytes (drop m l) bs
 unfolding addBytes
@@ -94,7 +108,7 @@ module _ {e : Bool} {line : List ℕ} {cells : Cells} {run : Run} (r : Reached e
   filled : filledOf from to (run .coverage) line ≡ (take from line ++ part) ++ behind
   filled = rw (r .byte) (sym (append-assoc (take from line) part behind))
 
-  past-run : lineFrom e line cells run ≡ lineAt e to (run .winding) (filledOf from to (run .coverage) line) cells
+  pub past-run : lineFrom e line cells run ≡ lineAt e to (run .winding) (filledOf from to (run .coverage) line) cells
   past-run =
       let d : to - from ≤ length (drop from line) = simp length-drop (omega arith) in
       let bytes = bytesOf e (run .winding) (drop to cells) in
@@ -157,6 +171,9 @@ module _ {e : Bool} {line : List ℕ} {cells : Cells} {run : Run} (r : Reached e
         line-same = past-run r cell h in-line z ∙ ap (λ (x : List ℕ). lineAt e cell (run .winding) x cells) (sym is)
             ∙ past-cell e filled cells l (run .winding) cell (omega arith)
             ∙ ap (λ (x : ℕ). lineAt e (cell + 1) winding (set filled cell x) (set cells cell f0)) (sym byte);
+        since = omega arith;
+        behind = λ k o. getD-set-other filled cell k v 0 (λ x. omega arith) ∙ ap (λ (x : List ℕ). getD x k 0) is
+            ∙ filled-past (run .from) cell (run .coverage) line k h in-line (omega arith);
       }
 
 -- the last run goes up to the row's end

@@ -25,11 +25,14 @@ pub back : (n : ℕ) → n + 1 - 1 ≡ n
 back n = omega arith
 
 still : {evenOdd : Bool} {line : List ℕ} {cells : Cells} {run : Run} → Reached evenOdd line cells run → Moved evenOdd line cells run line cells run
-still r = record { reached = r; line-same = refl }
+still r = record { reached = r; line-same = refl; since = omega arith; behind = λ k o. refl }
 
 onward : {evenOdd : Bool} {l₀ l₁ l₂ : List ℕ} {c₀ c₁ c₂ : Cells} {r₀ r₁ r₂ : Run}
     → Moved evenOdd l₀ c₀ r₀ l₁ c₁ r₁ → Moved evenOdd l₁ c₁ r₁ l₂ c₂ r₂ → Moved evenOdd l₀ c₀ r₀ l₂ c₂ r₂
-onward m n = record { reached = n .reached; line-same = m .line-same ∙ n .line-same }
+onward m n =
+    let p = m .since in
+    let q = n .since in
+    record { reached = n .reached; line-same = m .line-same ∙ n .line-same; since = omega arith; behind = λ k o. n .behind k o ∙ m .behind k (omega arith) }
 
 -- ---- the bits of a word
 
@@ -172,7 +175,7 @@ module _ {evenOdd : Bool} {line₀ : List ℕ} {cells₀ : Cells} {touched₀ : 
   module _ {line : List ℕ} {cells : Cells} {touched : List ℕ} {run : Run} {words : ℕ}
       (s : InRow evenOdd line₀ cells₀ touched₀ line cells touched run words) where
     -- a cell of a word whose bit is clear
-    by-word : (c : ℕ) → c < length cells → bitOf words (c / 64) ≡ 0 → getD cells c nan ≡ f0
+    pub by-word : (c : ℕ) → c < length cells → bitOf words (c / 64) ≡ 0 → getD cells c nan ≡ f0
     by-word c h z =
         let n = s .narrow in
         s .marked c h (ap (λ (x : ℕ). bitOf x (c % 64)) (s .summed (c / 64) (omega arith) z) ∙ zero-bit (c % 64))

@@ -41,10 +41,12 @@ pub record Reached (evenOdd : Bool) (line : List ℕ) (cells : Cells) (run : Run
   pub steady : Steady (run .winding)
   pub byte : run .coverage ≡ coveredOf evenOdd (run .winding)
 
--- from a run to a later one: the line that the row comes to is the same
+-- from a run to a later one: the line that the row comes to is the same, and the bytes from that run on are as they were
 pub record Moved (evenOdd : Bool) (line : List ℕ) (cells : Cells) (run : Run) (line' : List ℕ) (cells' : Cells) (run' : Run) : Type 0 where
   pub reached : Reached evenOdd line' cells' run'
   pub line-same : lineFrom evenOdd line cells run ≡ lineFrom evenOdd line' cells' run'
+  pub since : run .from ≤ run' .from
+  pub behind : (column : ℕ) → run' .from ≤ column → getD line' column 0 ≡ getD line column 0
 
 -- a word of marks, for the cells from `base` on: a cell from the run on whose bit is clear holds 0.0
 pub record MarkWord (cells : Cells) (run : Run) (base word : ℕ) : Type 0 where
@@ -61,3 +63,8 @@ pub record WordDone (cells cells' : Cells) (run run' : Run) (base : ℕ) : Type 
 pub record WordsDone (cells : Cells) (touched : List ℕ) : Type 0 where
   pub blank : Blank cells 0 (length cells)
   pub words : (word : ℕ) → word + 1 < length touched → getD touched (word + 1) 0 ≡ 0
+
+-- the bytes before `from` and from `to` on are as they were
+pub record SameOutside (before after : List ℕ) (from to : ℕ) : Type 0 where
+  pub within : to ≤ length after
+  pub same : (column : ℕ) → (column < from) ⊎ (to ≤ column) → getD after column 0 ≡ getD before column 0

@@ -7,7 +7,7 @@ ghost use lib.ListN.{length, replicate, set};
 ghost use Rattle.float.specs.Ops.{f0};
 ghost use Rattle.sweep.specs.Bytes.{shareOf, coveredOf, bytesOf, addBytes};
 ghost use Rattle.accumulation.specs.Marks.{Ready};
-ghost use Rattle.sweep.specs.Sweeping.{plusOf, filledOf, Blank, Reached, Moved, MarkWord, WordDone, WordsDone};
+ghost use Rattle.sweep.specs.Sweeping.{plusOf, filledOf, Blank, Reached, Moved, MarkWord, WordDone, WordsDone, SameOutside};
 
 // The share of a cell at a winding, by the rule.
 fn share(even_odd: bool, winding: f32) -> f32
@@ -162,15 +162,31 @@ fn sweep_words(line: &mut [u8], cells: &mut [f32], touched: &mut [u64], even_odd
     run
 }
 
-// Sums a row, adds each cell's coverage to the line, and clears the row and its marks.
-pub fn sweep(line: &mut [u8], cells: &mut [f32], touched: &mut [u64], even_odd: bool)
+// The columns that a sweep may have changed: from one on up to another, or none where they do not rise.
+pub struct Touched {
+    pub from: usize,
+    pub to: usize,
+}
+
+// Sums a row, adds each cell's coverage to the line, and clears the row and its marks. Returns
+// which columns it may have changed.
+pub fn sweep(line: &mut [u8], cells: &mut [f32], touched: &mut [u64], even_odd: bool) -> Touched
     requires { ⌜ Ready (now cells) (now touched) ⌝ }
     requires { ⌜ length (now line) ≡ length (now cells) ⌝ }
     ensures { λ _. ⌜ now (line .exit) ≡ addBytes (now (line .entry)) (bytesOf «even_odd» f0 (now (cells .entry))) ⌝ }
     ensures { λ _. ⌜ now (cells .exit) ≡ replicate (length (now (cells .entry))) f0 ⌝ }
     ensures { λ _. ⌜ now (touched .exit) ≡ replicate (length (now (touched .entry))) 0 ⌝ }
+    ensures { λ r. ⌜ SameOutside (now (line .entry)) (now (line .exit)) (r .from) (r .to) ⌝ }
 {
+    let from = (u64::trailing_zeros(touched[0]) as usize) * 64;
     let run = sweep_words(line, cells, touched, even_odd);
     touched[0] = 0;
     fill_run(line, run.from, line.len(), run.coverage);
+    if run.coverage == 0 {
+        return Touched { from, to: run.from };
+    }
+    Touched {
+        from,
+        to: line.len(),
+    }
 }

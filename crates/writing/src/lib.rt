@@ -1,4 +1,4 @@
-// What is written: text, bytes, floats, yes or no, a place, what is wrong with a line.
+// What is written: text, bytes, numbers, floats, yes or no, a place, what is wrong with a line.
 use fields::Problem;
 use libc::STDOUT_FILENO;
 
@@ -11,6 +11,22 @@ pub fn hex(bytes: &[u8]) {
     let mut i = 0;
     while i < bytes.len() {
         io::print_hex(STDOUT_FILENO, fields::wide(bytes[i]), 2);
+        i += 1;
+    }
+}
+
+fn decimal(n: u16) {
+    io::print_decimal(STDOUT_FILENO, n as u64);
+}
+
+// Numbers, one blank between.
+pub fn numbers(list: &[u16]) {
+    let mut i = 0;
+    while i < list.len() {
+        if i > 0 {
+            write(b" ");
+        }
+        decimal(list[i]);
         i += 1;
     }
 }
@@ -58,7 +74,7 @@ pub fn yes_or_no(holds: bool) {
 
 pub fn place(k: u16) {
     write(b"frame ");
-    io::print_decimal(STDOUT_FILENO, k as u64);
+    decimal(k);
     write(b"\n");
 }
 
@@ -71,6 +87,9 @@ fn field_message(problem: Problem) {
         Problem::NotAFloat => write(b"a float is not written as eight hexadecimal digits"),
         Problem::NotHex => write(b"the bytes are not written as pairs of hexadecimal digits"),
         Problem::NotAByte => write(b"a verb or a byte is not a decimal number up to 255"),
+        Problem::NotSixteenBits => write(
+            b"an ink buffer's number is not a decimal number up to 65,535",
+        ),
         _ => {}
     }
 }
@@ -79,6 +98,7 @@ fn field_message(problem: Problem) {
 fn limit_message(problem: Problem) {
     match problem {
         Problem::BufferTooLong => write(b"a buffer has at most 65,536 bytes"),
+        Problem::InkTooLong => write(b"an ink buffer has at most 8,200 numbers"),
         Problem::TooManyWords => write(b"a drawing takes at most 16,384 words"),
         Problem::TooManyFloats => write(b"a line takes at most 2,573 floats"),
         Problem::TooManyVerbs => write(b"an outline's line takes at most 512 verbs"),
@@ -100,8 +120,10 @@ fn message(problem: Problem) {
         | Problem::NotANumber
         | Problem::NotAFloat
         | Problem::NotHex
-        | Problem::NotAByte => field_message(problem),
+        | Problem::NotAByte
+        | Problem::NotSixteenBits => field_message(problem),
         Problem::BufferTooLong
+        | Problem::InkTooLong
         | Problem::TooManyWords
         | Problem::TooManyFloats
         | Problem::TooManyVerbs

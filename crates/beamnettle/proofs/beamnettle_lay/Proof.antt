@@ -1,5 +1,4 @@
--- `beamnettle::beamnettle_lay` meets its contract: what laying on promises of its answer, said of the answer's
--- definition. Assumes nothing.
+-- `beamnettle::beamnettle_lay` meets its contract: the offset's numbers fit. Assumes nothing.
 use mir.Syntax.{w32}
 use mir.ValLaws.{toZ-ofZ}
 use borrow.Author.Needs.{needs}
@@ -8,12 +7,11 @@ use Rattle.beamnettle.proofs.beamnettle_lay.Tie as tie
 
 returns : tie.Need-returns
 returns c =
-    let start = c .before .before .before .before .before .before .before in
-    let laid = c .before .before .before .intersect .ensures in
+    let laid = c .before .before .before .before in
+    let start = laid .before .before .before .before .before .before in
     let across = toZ-ofZ w32 (start .args .offset-x) (start .fits .offset-x) in
     let down = toZ-ofZ w32 (start .args .offset-y) (start .fits .offset-y) in
-    (rw (laid .0) at (c .outcome-number .ensures), rw (across, down) at (rw (laid .0) at (laid .1 .0)))
+    rw (across, down) at (laid .lay .ensures)
 
 pub beamnettle-lay-spec : {M : Type 1} → statement M
-beamnettle-lay-spec =
-    tie.close (tie.spec (λ c κs. search needs) (λ c κs. search needs) (λ c. search needs) returns)
+beamnettle-lay-spec = tie.close (tie.spec (λ c κs. search needs) (λ c. search needs) (λ c. search needs) returns)

@@ -4,10 +4,10 @@ use Rattle.calls.proofs.answer_all.Statement.{statement}
 use Rattle.calls.proofs.answer_all.Tie as tie
 
 abbrev Inv-loop : tie.InvT-loop
-Inv-loop chunk₀ line₀ run₀ next₀ s₀ turns₀ chunk line run next s turns = Unit {0}
+Inv-loop chunk₀ line₀ run₀ run-ink₀ next₀ next-ink₀ s₀ turns₀ chunk line run run-ink next next-ink s turns = Unit {0}
 
 abbrev μ-loop : tie.MeasureT-loop
-μ-loop chunk₀ line₀ run₀ next₀ s₀ turns₀ chunk line run next s turns = turns
+μ-loop chunk₀ line₀ run₀ run-ink₀ next₀ next-ink₀ s₀ turns₀ chunk line run run-ink next next-ink s turns = turns
 
 pub answer-all-spec : {M : Type 1} → statement M
 answer-all-spec =

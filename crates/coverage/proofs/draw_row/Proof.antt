@@ -2,8 +2,11 @@
 use mathlib.Core.Path.{sym, ap, _∙_}
 use Prim.Native.Nat.{ℕ}
 use native.Mathlib.Omega.{arith}
-use lib.ListN.{replicate}
+use lib.ListN.{take, replicate}
+use Rattle.float.specs.Ops.{f0}
+use Rattle.sweep.specs.Bytes.{bytesOf}
 use Rattle.coverage.proofs.OneRow.{no-edges, row-ready, pieces-made, row-wide, row-drawn}
+use Rattle.coverage.proofs.Inking.{row-grown}
 use borrow.Author.Needs.{needs}
 use Rattle.coverage.proofs.draw_row.Statement.{statement}
 use Rattle.coverage.proofs.draw_row.Tie as tie
@@ -12,7 +15,7 @@ returns : tie.Need-returns
 returns c =
     let pre = c .before .before .before .before .pre in
     let d = no-edges (pre .0) (c .if1 .taken) (pre .1 .0) (λ i. c .before .before .before .slice-known .given i .fits) in
-    (d .bytes, (d .drawn, d .drawable))
+    (d .bytes, (d .drawn, (d .drawable, λ e. e)))
 
 from-whole-requires : tie.Need-from-whole-requires
 from-whole-requires c κs = let h = c .before .before .before .before .pre .1 .1 in omega arith
@@ -58,21 +61,23 @@ sweep-requires c κs =
 
 returns-2 : tie.Need-returns-2
 returns-2 c =
-    let sweep = c .before .before .before .before .before .before .sweep in
-    let pieces = c .before .before .before .before .before .before .before .before .before .before .before .before .before .before .pieces in
-    let tall = c .before .before .before .before .before .before .before .before .before .before .before .before .before .before .before .from-whole3 .ensures in
-    let bottom = c .before .before .before .before .before .before .before .before .before .before .before .before .before .before .before .before .before .before .from-whole2 .ensures in
-    let first = c .before .before .before .before .before .before .before .before .before .before .before .before .before .before .before .before .before .before .before in
+    let sweep = c .before .before .before .before .before .before .before .before .sweep in
+    let pieces = c .before .before .before .before .before .before .before .before .before .before .before .before .before .before .before .before .pieces in
+    let tall = c .before .before .before .before .before .before .before .before .before .before .before .before .before .before .before .before .before .from-whole3 .ensures in
+    let second = c .before .before .before .before .before .before .before .before .before .before .before .before .before .before .before .before .before .before .before .before in
+    let bottom = second .from-whole2 .ensures in
+    let first = second .before in
     let top = first .from-whole .ensures in
-    let d = first .before .before .before .before .before .pre .0 in
+    let start = first .before .before .before .before .before in
     let made = pieces-made tall top bottom (pieces .ensures .0) (pieces .kept .0) in
-    let marks = sweep .ensures .1 .1 ∙ ap (λ (i : ℕ). replicate i 0) (pieces .kept .1 .0) in
-    let r = row-drawn d made (sweep .ensures .0) (sweep .ensures .1 .0) marks in
-    (r .bytes, (r .drawn, r .drawable))
+    let marks = sweep .ensures .1 .1 .0 ∙ ap (λ (i : ℕ). replicate i 0) (pieces .kept .1 .0) in
+    let r = row-drawn (start .pre .0) made (sweep .ensures .0) (sweep .ensures .1 .0) marks in
+    let bytes = bytesOf (start .args .even-odd) f0 (take (start .args .l .width) (pieces .last .0)) in
+    (r .bytes, (r .drawn, (r .drawable, λ e. c .grown .ensures (start .args .line .now) e (row-grown bytes (sweep .ensures .0) (sweep .ensures .1 .1 .1)))))
 
 pub draw-row-spec : {M : Type 1} → statement M
 draw-row-spec =
     tie.close
     (tie.spec returns from-whole-requires add-from-whole from-whole-requires-2 from-whole-requires-3
-    pieces-requires slice-relend-prefix-sweep slice-aggregate-sweep sweep-requires (λ c. search needs)
-    (λ c. search needs) (λ c. search needs) returns-2)
+    pieces-requires slice-relend-prefix-sweep slice-aggregate-sweep sweep-requires (λ c κs. search needs)
+    (λ c. search needs) (λ c. search needs) (λ c. search needs) returns-2)

@@ -4,8 +4,9 @@ use mathlib.Core.List.{List}
 use Prim.Native.Nat.{ℕ}
 use lib.ListN.{length}
 use Rattle.cells.specs.Corner.{CornerAllowed}
+use Rattle.ink.specs.Lent.{Lent, lent}
 use Rattle.laying.specs.Placed.{Placed, placed}
-use Rattle.mask.specs.Calls.{Lent, lent, outcomeNumber, layPlacedAnswer}
+use Rattle.mask.specs.Calls.{outcomeNumber, layPlacedAnswer}
 use Rattle.mask.specs.Laws.{LayPlacedNumber}
 use Rattle.mask.specs.declared.Outcome.{Outcome}
 use Rattle.mask.proofs.PlacedCauses.{check-refuses, check-passes, within}
@@ -20,17 +21,17 @@ told p lent other e = subst (λ (o : Outcome). LayPlacedNumber p lent other (out
 
 returns : tie.Need-returns
 returns c =
-    let args = c .before .before .before .before .before .before .args in
+    let args = c .before .before .before .before .before .before .before .args in
     let p = placed (args .mask-record) (args .other-record) in
-    let l = lent (args .mask .now) in
+    let l = lent (args .mask .now) (args .ink .now) in
     let n = length (args .other .now) in
     let answer = check-refuses p l n (c .before .fault .given .0 .0) (sym (c .before .before .before .corners-check .ensures) ∙ c .before .fault .given .1) in
-    (sym answer, (refl, told p l n answer))
+    (sym answer, (refl, (refl, told p l n answer)))
 
 -- where the check refuses nothing
 module _ (t : tie.After-enum-told) where
   abbrev start : tie.Start
-  start = t .before .before .before .before .before
+  start = t .before .before .before .before .before .before
 
   abbrev p : Placed
   p = placed (start .args .mask-record) (start .args .other-record)
@@ -43,16 +44,16 @@ between-requires c κs = allowed c
 
 returns-2 : tie.Need-returns-2
 returns-2 c =
-    let b = c .before .before .before .before in
+    let b = c .before .before .before .before .before .before .before in
     let t = b .before in
-    let l = lent (start t .args .mask .now) in
+    let l = lent (start t .args .mask .now) (start t .args .ink .now) in
     let n = length (start t .args .other .now) in
-    let laid = rw (b .between .ensures) at (c .before .before .intersect .ensures) in
+    let laid = rw (b .between .ensures) at (c .before .before .before .before .intersect .ensures) in
     let answer = within (p t) l n (allowed t .0) (allowed t .1) ∙ sym (laid .0) in
-    (sym answer, (laid .1 .0, told (p t) l n answer))
+    (sym answer, (laid .1 .0, (laid .1 .1 .0, told (p t) l n answer)))
 
 pub intersect-placed-spec : {M : Type 1} → statement M
 intersect-placed-spec =
     tie.close
     (tie.spec (λ c κs. search needs) (λ c. search needs) returns (λ c. search needs) between-requires (λ c κs. search needs)
-    (λ c. search needs) returns-2)
+    (λ c. search needs) (λ c. search needs) returns-2)

@@ -1,27 +1,26 @@
 -- `pgm::read_pgm` meets its contract. Assumes nothing.
-use mathlib.Core.Path.{_≡_, refl, sym, ap, _∙_}
+use mathlib.Core.Path.{_≡_, refl, sym, _∙_}
 use mathlib.Core.List.{List}
 use Prim.Native.Nat.{ℕ, _-_, _≤_}
 use native.Mathlib.Omega.{arith}
 use lib.ListN.{length, take, drop, length-drop}
 use lib.Seq.{take-all}
 use borrow.Author.Needs.{needs}
-use Rattle.pgm_reader.specs.Reading.{Read, ok, Head, readHeader}
+use Rattle.pgm_reader.specs.Reading.{ok, Head, readHeader}
 use Rattle.pgm_reader.proofs.Places.{header-read, header-none}
-use Rattle.pgm.specs.Calls.{headCall, rasterCall, rasterIn, rasterOver}
 use Rattle.pgm.proofs.read_pgm.Statement.{statement}
 use Rattle.pgm.proofs.read_pgm.Tie as tie
 
 returns : tie.Need-returns
 returns c =
-    let args = c .before .before .before .before .before .args in
+    let args = c .before .before .before .before .before .before .args in
     let none = header-none (length (args .file .now)) (readHeader (args .file .now)) (sym (c .before .before .read-header .ensures) ∙ c .enum-told .given .1) in
-    rw none (refl, refl)
+    rw none (refl, (refl, refl))
 
 -- where there is a header
 module _ (t : tie.After-size) where
   abbrev start : tie.Start
-  start = t .before .before .before .before .before
+  start = t .before .before .before .before .before .before
 
   abbrev file : List ℕ
   file = start .args .file .now
@@ -47,16 +46,13 @@ part-read-raster-start c = omega (arith, was (c .before) .1)
 
 returns-2 : tie.Need-returns-2
 returns-2 c =
-    let p = c .before .before in
-    let t = p .before .before .before .before in
-    let mask = start t .args .mask .now in (
-      p .read-raster .ensures .0 ∙ ap (λ (x : List ℕ). rasterCall (head t) (length x) (length mask)) (raster t) ∙ ap (λ (r : Read Head). headCall r (length mask)) (sym (was t .0)),
-      p .read-raster .ensures .1 ∙ ap (λ (x : List ℕ). rasterOver (p .read-raster .result) x mask) (raster t)
-          ∙ ap (λ (r : Read Head). rasterOver (p .read-raster .result) (rasterIn r) mask) (sym (was t .0)),
-    )
+    let p = c .before .before .before .before in
+    let t = p .before .before .before .before .before in
+    let read = rw (raster t) at (p .read-raster .ensures) in
+    rw (was t .0) read
 
 pub read-pgm-spec : {M : Type 1} → statement M
 read-pgm-spec =
     tie.close
     (tie.spec (λ c κs. search needs) (λ c. search needs) (λ c. search needs) sub-read-raster part-read-raster-start (λ c. search needs)
-    (λ c κs. search needs) returns (λ c. search needs) returns-2)
+    (λ c κs. search needs) returns (λ c. search needs) (λ c. search needs) returns-2)

@@ -1,2 +1,0 @@
--- Calls: what each exported call answers.
-pub mod Calls

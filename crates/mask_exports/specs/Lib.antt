@@ -1,0 +1,2 @@
+-- Calls: the calls on masks, on lent slices.
+pub mod Calls
