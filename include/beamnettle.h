@@ -27,9 +27,9 @@
  * radii (0: square); its frame takes it to where it lies. A fringe is a width there, such as that of a
  * pixel: over it an edge fades. Distances are in fringe widths, below 0 inside.
  *
- * Small frames. Coverage and touch take the box's frame back; parallel, the intersections, with_scissor and
- * rect_fill the first box's; trimmed_scissor the scissor's. Where its determinant a * d - b * c lies between
- * -0.000001 and 0.000001, the identity is taken for what takes it back, as femtovg does, and nothing is
+ * Small frames. Coverage and touch take the box's frame back; inside the safe area's; parallel, the intersections,
+ * with_scissor and rect_fill the first box's; trimmed_scissor the scissor's. Where its determinant a * d - b * c lies
+ * between -0.000001 and 0.000001, the identity is taken for what takes it back, as femtovg does, and nothing is
  * refused: a box drawn to less than a thousandth of its size gets an answer about another box.
  */
 #ifndef BEAMNETTLE_H
@@ -42,8 +42,8 @@
 extern "C" {
 #endif
 
-/* What a function returns: 8 bits, but for beamnettle_touch and beamnettle_write_pgm, which return 32. 1 to 31 are
- * refusals alone, and 10 is given to nothing. */
+/* What a function returns: 8 bits, but for beamnettle_touch, beamnettle_inside and beamnettle_write_pgm, which return
+ * 32. 1 to 31 are refusals alone, and 10 is given to nothing. */
 enum {
     BEAMNETTLE_DONE = 0,
     /* refused: */
@@ -57,20 +57,20 @@ enum {
     BEAMNETTLE_UNKNOWN_VERB = 8,            /* a verb byte above 5 */
     BEAMNETTLE_POSITIONS_MISMATCH = 9,      /* verbs need more positions than given, or fewer */
     BEAMNETTLE_TOO_MANY_VERBS = 11,         /* over 256 verbs */
-    BEAMNETTLE_TOO_MANY_BOXES = 12,         /* over 4,096 boxes in a touch list */
+    BEAMNETTLE_TOO_MANY_BOXES = 12,         /* over 4,096 boxes in a list */
     BEAMNETTLE_NOT_PGM = 13,                /* a PGM mark, number or whitespace at fault, or a width or height of 0 */
     BEAMNETTLE_WRONG_DEPTH = 14,            /* a PGM depth other than 255 */
     BEAMNETTLE_WRONG_RASTER = 15,           /* a PGM raster of more bytes than width * height, or of fewer */
     BEAMNETTLE_CORNER_OUT_OF_RANGE = 16,    /* a corner number beyond +-1,048,576, laying on by corners */
     /* done, and: */
-    BEAMNETTLE_NONE = 32, /* there is no box, no coverage, or no bounds */
+    BEAMNETTLE_NONE = 32, /* there is no box, no coverage (of a safe area too), or no bounds */
     BEAMNETTLE_YES = 33,
     BEAMNETTLE_NO = 34,
     BEAMNETTLE_NO_FRAME = 35,     /* beamnettle_touch: no box is touched */
     BEAMNETTLE_SHARED = 36,       /* beamnettle_rect_fill: a box is written, which the two share */
     BEAMNETTLE_COVERED = 37,      /* beamnettle_rect_fill: a box is written, around the clip */
     BEAMNETTLE_CUT = 38,          /* beamnettle_fit_with_cut: a box, its strays and a cut box are written */
-    BEAMNETTLE_FIRST_PLACE = 256, /* beamnettle_touch: the box at place k, counted from 0, is 256 + k */
+    BEAMNETTLE_FIRST_PLACE = 256, /* beamnettle_touch, beamnettle_inside: the box at place k, from 0, is 256 + k */
     BEAMNETTLE_FIRST_LENGTH = 256 /* beamnettle_write_pgm: a file of n bytes, which is written, is 256 + n */
 };
 
@@ -86,7 +86,7 @@ enum {
     BEAMNETTLE_CUT_OUTLINE = 21
 };
 
-/* A box of a touch list: the same ten floats, in the same order. */
+/* A box of a list: the same ten floats, in the same order. */
 struct beamnettle_box {
     float a, b, c, d, x, y;
     float extent_x, extent_y;
@@ -290,6 +290,15 @@ uint8_t beamnettle_holds(const float *coverage, size_t coverage_length, const fl
  * Returns 256 + the place, counted from 0; 35 where there is no such box; or 12, then 1 or 2 for each box in
  * order, then 1 for the fringe or the point. */
 uint32_t beamnettle_touch(const struct beamnettle_box *boxes, size_t boxes_length, float fringe, float x, float y);
+
+/* Whether a safe area holds all of every box of a list. The safe area is the box in safe; it holds what its coverage
+ * at the fringe does, within half a fringe width (beamnettle_contains). At most 4,096 boxes are taken, and all of them
+ * are checked, whatever is found. Nothing is written.
+ * Returns 33 where it holds them all, or the list is empty; 256 + the lowest place, counted from 0, of a box that it
+ * does not hold; 32 where it has no coverage, whatever the list, an empty one too; or 12, then 1 or 2 for each box in
+ * order, then for the safe area, then 1 for the fringe. */
+uint32_t beamnettle_inside(const struct beamnettle_box *boxes, size_t boxes_length, const float *safe,
+                           size_t safe_length, float fringe);
 
 #ifdef __cplusplus
 }

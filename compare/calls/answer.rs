@@ -1,7 +1,7 @@
 //! A list's answers, by femtovg; those about PGM files by the second reader and writer, and ink by a scan of
 //! the Rust's masks. Of a bad line it says what is wrong, as the program `calls` does.
 use crate::{netpbm, scan::scan};
-use femtovg::calls::{self, Both, Box10, Drawing, Fill, Fitted};
+use femtovg::calls::{self, Both, Box10, Drawing, Fill, Fitted, Inside};
 use std::str::SplitWhitespace;
 
 pub struct State {
@@ -37,15 +37,15 @@ const NOT_A_BYTE: Bad = "a verb or a byte is not a decimal number up to 255";
 const NOT_SIXTEEN_BITS: Bad = "an ink buffer's number is not a decimal number up to 65,535";
 const BUFFER_TOO_LONG: Bad = "a buffer has at most 65,536 bytes";
 const INK_TOO_LONG: Bad = "an ink buffer has at most 8,200 numbers";
-const TOO_MANY_FLOATS: Bad = "a line takes at most 2,573 floats";
+const TOO_MANY_FLOATS: Bad = "a line takes at most 2,581 floats";
 const TOO_MANY_VERBS: Bad = "an outline's line takes at most 512 verbs";
-const TOO_MANY_BOXES: Bad = "a touch list's line takes at most 257 boxes";
-const TOO_MANY_COPIES: Bad = "a touch list of copies has at most 4,097 boxes";
+const TOO_MANY_BOXES: Bad = "a list's line takes at most 257 boxes";
+const TOO_MANY_COPIES: Bad = "a list of copies has at most 4,097 boxes";
 
 /// The largest number that the program reads.
 pub const LARGEST: usize = 2_684_354_559;
 /// The most floats that it reads from a line.
-const MOST_FLOATS: usize = 2573;
+const MOST_FLOATS: usize = 2581;
 /// The most bytes of a buffer or a file.
 const MOST_BYTES: usize = 65_536;
 /// How many numbers an ink buffer has at first, and at most.
@@ -196,19 +196,17 @@ fn upright_rect(f: &mut Fields) -> Result<String, Bad> {
     Ok(answered(answer, maybe("box")))
 }
 
-fn touch(f: &mut Fields) -> Result<String, Bad> {
+/// A list's boxes.
+fn listed(f: &mut Fields) -> Result<Vec<Box10>, Bad> {
     let count = number(f)?;
     if count > 257 {
         return Err(TOO_MANY_BOXES);
     }
-    let boxes = (0..count)
-        .map(|_| floats(f))
-        .collect::<Result<Vec<[f32; 10]>, _>>()?;
-    touched(&boxes, f)
+    (0..count).map(|_| floats(f)).collect()
 }
 
 /// Copies of a box, with another at its place, if there is such a place.
-fn touchn(f: &mut Fields) -> Result<String, Bad> {
+fn copies(f: &mut Fields) -> Result<Vec<Box10>, Bad> {
     let count = number(f)?;
     if count > 4097 {
         return Err(TOO_MANY_COPIES);
@@ -218,15 +216,27 @@ fn touchn(f: &mut Fields) -> Result<String, Bad> {
     if place < count {
         boxes[place] = other;
     }
-    touched(&boxes, f)
+    Ok(boxes)
 }
 
 /// The answer to a touch list, whose fringe and point are yet to be read.
-fn touched(boxes: &[Box10], f: &mut Fields) -> Result<String, Bad> {
+fn touch(boxes: &[Box10], f: &mut Fields) -> Result<String, Bad> {
     let (fringe, point) = (float(f)?, floats(f)?);
     ended(f)?;
     Ok(answered(calls::touch(boxes, fringe, point), |place| {
         place.map_or("noframe".to_string(), |place| format!("frame {place}"))
+    }))
+}
+
+/// The answer to a list in a safe area, which is yet to be read with its fringe.
+fn inside(boxes: &[Box10], f: &mut Fields) -> Result<String, Bad> {
+    let (safe, fringe) = (floats(f)?, float(f)?);
+    ended(f)?;
+    let answer = calls::inside(boxes, safe, fringe);
+    Ok(answered(answer, |inside| match inside {
+        Inside::All => "inside".to_string(),
+        Inside::Not(place) => format!("outside {place}"),
+        Inside::NoBox => "nobox".to_string(),
     }))
 }
 
@@ -437,8 +447,10 @@ impl State {
             "fit_outline" => fit_outline(f),
             "fit_with_cut" => fit_with_cut(f),
             "upright_rect" => upright_rect(f),
-            "touch" => touch(f),
-            "touchn" => touchn(f),
+            "touch" => touch(&listed(f)?, f),
+            "touchn" => touch(&copies(f)?, f),
+            "inside" => inside(&listed(f)?, f),
+            "insiden" => inside(&copies(f)?, f),
             name => on_boxes(name, f),
         }
     }

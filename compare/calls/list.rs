@@ -6,6 +6,7 @@ use crate::{
     curves::curves,
     holds::holds,
     inks::inks,
+    insides::insides,
     pgm::pgms,
     scissors::{bad_scissors, scissors},
     touches::{sheets, touches},
@@ -133,6 +134,23 @@ impl List {
     /// A call, with every NaN written as one.
     pub fn call(&mut self, name: &str, floats: &[f32]) {
         self.line(&format!("{name}{}", hex(floats)));
+    }
+
+    /// A call with one of its numbers replaced, at every place.
+    pub fn at_every_place(&mut self, name: &str, floats: &[f32]) {
+        for at in 0..floats.len() {
+            for x in [
+                LARGEST,
+                up(LARGEST),
+                -up(LARGEST),
+                f32::NAN,
+                -f32::MIN_POSITIVE,
+            ] {
+                let mut floats = floats.to_vec();
+                floats[at] = x;
+                self.call(name, &floats);
+            }
+        }
     }
 
     /// A call on an outline, with other floats behind its positions.
@@ -298,19 +316,7 @@ fn calls_on_boxes() -> Vec<(&'static str, Vec<f32>)> {
 fn numbers(l: &mut List) {
     l.line("# numbers 1 and 2, at every place of every call on boxes");
     for (name, floats) in calls_on_boxes() {
-        for at in 0..floats.len() {
-            for x in [
-                LARGEST,
-                up(LARGEST),
-                -up(LARGEST),
-                f32::NAN,
-                -f32::MIN_POSITIVE,
-            ] {
-                let mut floats = floats.clone();
-                floats[at] = x;
-                l.call(name, &floats);
-            }
-        }
+        l.at_every_place(name, &floats);
     }
 }
 
@@ -641,6 +647,7 @@ pub fn list() -> String {
     for part in [
         examples, numbers, improper, masks, layings, offsets, outlines, corners, random, chains,
         touches, scissors, holds, bad_lines, pgms, curves, row_starts, sheets, placed, inks,
+        insides,
     ] {
         part(&mut list);
     }

@@ -7,6 +7,7 @@ mod corners;
 mod curves;
 mod holds;
 mod inks;
+mod insides;
 mod list;
 #[path = "../netpbm/pgm.rs"]
 mod netpbm;

@@ -20,7 +20,12 @@ impl List {
         point: [f32; 2],
     ) {
         let floats = [&other[..], &[fringe], &point].concat();
-        self.call(&format!("touchn {n}{} {at}", hex(&copied)), &floats);
+        self.copies("touchn", n, copied, at, &floats);
+    }
+
+    /// A call on so many copies of a box, with another at its place; the floats begin with the other.
+    pub fn copies(&mut self, name: &str, n: usize, copied: Box10, at: usize, floats: &[f32]) {
+        self.call(&format!("{name} {n}{} {at}", hex(&copied)), floats);
     }
 }
 

@@ -394,15 +394,20 @@ pub fn contains(c: Coverage11, b: Box10) -> Result<bool, Refused> {
     Ok(covering(&c).contains(&boxed(b)))
 }
 
-/// The most boxes of a touch list, since document 02's change 7.
+/// The most boxes of a list, since document 02's change 7.
 const MOST_BOXES: usize = 4096;
 
-/// The places of all boxes that hold a touch: at a distance of at most 0.5.
-pub fn touched(boxes: &[Box10], fringe: f32, point: [f32; 2]) -> Result<Vec<usize>, Refused> {
+/// Number 12, then 1 or 2 for each box in order.
+pub fn check_boxes(boxes: &[Box10]) -> Result<(), Refused> {
     if boxes.len() > MOST_BOXES {
         return Err(BOXES);
     }
-    boxes.iter().try_for_each(check_box)?;
+    boxes.iter().try_for_each(check_box)
+}
+
+/// The places of all boxes that hold a touch: at a distance of at most 0.5.
+pub fn touched(boxes: &[Box10], fringe: f32, point: [f32; 2]) -> Result<Vec<usize>, Refused> {
+    check_boxes(boxes)?;
     check(fringe)?;
     check_all(&point)?;
     let touches = |at: &usize| {
@@ -415,6 +420,36 @@ pub fn touched(boxes: &[Box10], fringe: f32, point: [f32; 2]) -> Result<Vec<usiz
 /// Document 02, change 3: the lowest of these places.
 pub fn touch(boxes: &[Box10], fringe: f32, point: [f32; 2]) -> Result<Option<usize>, Refused> {
     Ok(touched(boxes, fringe, point)?.first().copied())
+}
+
+/// How a list of boxes lies to a safe area.
+#[derive(Copy, Clone, Debug, PartialEq, Eq)]
+pub enum Inside {
+    All,
+    /// the lowest place whose box is not inside
+    Not(usize),
+    /// the safe area has no coverage
+    NoBox,
+}
+
+/// The places of all boxes that the safe area's coverage does not contain, each tested by itself, if it has one.
+pub fn outside(boxes: &[Box10], safe: Box10, fringe: f32) -> Result<Option<Vec<usize>>, Refused> {
+    check_boxes(boxes)?;
+    let Some(area) = coverage(safe, fringe)? else {
+        return Ok(None);
+    };
+    let fails = |at: &usize| contains(area, boxes[*at]) != Ok(true);
+    Ok(Some((0..boxes.len()).filter(fails).collect()))
+}
+
+/// Document 02, change 10.
+pub fn inside(boxes: &[Box10], safe: Box10, fringe: f32) -> Result<Inside, Refused> {
+    let outside = outside(boxes, safe, fringe)?;
+    Ok(match outside.as_deref() {
+        None => Inside::NoBox,
+        Some([]) => Inside::All,
+        Some([lowest, ..]) => Inside::Not(*lowest),
+    })
 }
 
 // ---- scissors and fills

@@ -78,6 +78,10 @@ impl Shape {
         black_box(black_box(&self.0).rect_fill(&fill.0, fringe));
     }
 
+    pub fn covering(&self, fringe: f32) -> Option<Covering> {
+        black_box(&self.0).coverage(fringe).map(Covering)
+    }
+
     /// femtovg has no touch: its coverage, then its distance.
     pub fn touches(&self, fringe: f32, point: [f32; 2]) -> bool {
         let coverage = black_box(&self.0).coverage(fringe);
@@ -94,8 +98,8 @@ impl Covering {
         black_box(black_box(&self.0).distance(point));
     }
 
-    pub fn contains(&self, shape: &Shape) {
-        black_box(black_box(&self.0).contains(&shape.0));
+    pub fn contains(&self, shape: &Shape) -> bool {
+        black_box(&self.0).contains(&shape.0)
     }
 
     pub fn reach(&self) {

@@ -1,8 +1,8 @@
 /* Calls every function of include/beamnettle.h from C, with different numbers in every place, and checks
  * the number, all that is written, and that what lies past it is not changed. What is expected is document
  * 01's examples, or is reckoned in whole numbers, halves and quarters beside the call; strays are reckoned sample by
- * sample. Then touch, on structs, is held to coverage and distance, on arrays. The exit status is 1 where a check
- * fails. */
+ * sample. Then touch and inside, on structs, are held to coverage, distance and contains, on arrays. The exit status
+ * is 1 where a check fails. */
 #include "beamnettle.h"
 
 #include <math.h>
@@ -977,20 +977,23 @@ static void holding(void) {
     CHECK(beamnettle_holds(square, COVERAGE, bounds, BOUNDS - 1) == BEAMNETTLE_BUFFER_TOO_SHORT);
 }
 
-/* ---- the touch list */
+/* ---- lists of boxes */
 
-/* No proof speaks of where a struct's fields lie. So touch, which takes structs, is held to coverage and
- * distance, which take the same ten floats as an array, at points on and about a box. Any two of the floats
- * exchanged would show: the array's answer changes at some point. */
+/* No proof speaks of where a struct's fields lie. So touch and inside, which take structs, are held to coverage,
+ * distance and contains, which take the same ten floats as an array: at points on and about a box, and in safe areas
+ * that lie about it. Any two of the floats exchanged would show: the array's answer changes at some point. */
 enum { SIDE = 41, POINTS = SIDE * SIDE };
 static const float SAMPLE[BOX] = {3, 1, -2, 4, 5, -7, 9, 8, 6, 2};
+static const struct beamnettle_box SAMPLE_BOX = {
+    .a = 3, .b = 1, .c = -2, .d = 4, .x = 5, .y = -7, .extent_x = 9, .extent_y = 8, .radius_x = 6, .radius_y = 2,
+};
 static const float FRINGE = 0.75f;
 
 static float x_of(size_t point) { return 2.0f * (float)(point % SIDE) - 35.0f; }
 static float y_of(size_t point) { return 2.0f * (float)(point / SIDE) - 46.0f; }
 
 /* What touch is to answer at a point. */
-static uint32_t by_array(const float *box, size_t point) {
+static uint32_t by_distance(const float *box, size_t point) {
     float coverage[COVERAGE], distance;
     uint8_t number = beamnettle_coverage(box, BOX, FRINGE, coverage, COVERAGE);
     if (number == BEAMNETTLE_NONE) return BEAMNETTLE_NO_FRAME;
@@ -1000,33 +1003,55 @@ static uint32_t by_array(const float *box, size_t point) {
     return distance <= 0.5f ? BEAMNETTLE_FIRST_PLACE : BEAMNETTLE_NO_FRAME;
 }
 
-/* Whether the two floats exchanged change the answer at some point. */
-static int shows(size_t one, size_t two) {
-    float box[BOX];
-    memcpy(box, SAMPLE, sizeof box);
-    box[one] = SAMPLE[two];
-    box[two] = SAMPLE[one];
+/* A safe area little larger than the sample, whose centre lies an eighth as far off the sample's as a point lies off
+ * the middle one. */
+static void area_at(size_t point, float *safe) {
+    const float area[BOX] = {1, 0, 0, 1, 5 + (x_of(point) - 5) / 8, -7 + (y_of(point) + 6) / 8, 41, 38.5f};
+    memcpy(safe, area, sizeof area);
+}
+
+/* What inside is to answer there. */
+static uint32_t by_contains(const float *box, size_t point) {
+    float safe[BOX], coverage[COVERAGE];
+    area_at(point, safe);
+    uint8_t number = beamnettle_coverage(safe, BOX, FRINGE, coverage, COVERAGE);
+    if (number != BEAMNETTLE_DONE) return number;
+    number = beamnettle_contains(coverage, COVERAGE, box, BOX);
+    return number == BEAMNETTLE_NO ? BEAMNETTLE_FIRST_PLACE : number;
+}
+
+/* Checks that any two floats exchanged change the answer at some point. */
+static void shows(uint32_t (*answer)(const float *, size_t)) {
+    for (size_t one = 0; one < BOX; one++)
+        for (size_t two = one + 1; two < BOX; two++) {
+            float box[BOX];
+            size_t changed = 0;
+            memcpy(box, SAMPLE, sizeof box);
+            box[one] = SAMPLE[two];
+            box[two] = SAMPLE[one];
+            for (size_t point = 0; point < POINTS; point++) changed += answer(box, point) != answer(SAMPLE, point);
+            CHECK(changed > 0);
+        }
+}
+
+static void touching_as_an_array(void) {
+    size_t same = 0;
     for (size_t point = 0; point < POINTS; point++)
-        if (by_array(box, point) != by_array(SAMPLE, point)) return 1;
-    return 0;
+        same += beamnettle_touch(&SAMPLE_BOX, 1, FRINGE, x_of(point), y_of(point)) == by_distance(SAMPLE, point);
+    CHECK(same == POINTS);
+    shows(by_distance);
+}
+
+/* Boxes side by side: places, and numbers in their order. */
+static struct beamnettle_box boxes[BEAMNETTLE_MOST_BOXES + 1];
+
+static void put_boxes(void) {
+    for (size_t i = 0; i <= BEAMNETTLE_MOST_BOXES; i++)
+        boxes[i] = (struct beamnettle_box){.a = 1, .d = 1, .x = 10.0f * (float)i, .y = 3, .extent_x = 2, .extent_y = 1};
 }
 
 static void touching(void) {
-    const struct beamnettle_box box = {
-        .a = SAMPLE[0], .b = SAMPLE[1], .c = SAMPLE[2], .d = SAMPLE[3], .x = SAMPLE[4], .y = SAMPLE[5],
-        .extent_x = SAMPLE[6], .extent_y = SAMPLE[7], .radius_x = SAMPLE[8], .radius_y = SAMPLE[9],
-    };
-    size_t same = 0;
-    for (size_t point = 0; point < POINTS; point++)
-        same += beamnettle_touch(&box, 1, FRINGE, x_of(point), y_of(point)) == by_array(SAMPLE, point);
-    CHECK(same == POINTS);
-    for (size_t one = 0; one < BOX; one++)
-        for (size_t two = one + 1; two < BOX; two++) CHECK(shows(one, two));
-
-    /* places, and numbers in their order */
-    static struct beamnettle_box boxes[BEAMNETTLE_MOST_BOXES + 1];
-    for (size_t i = 0; i <= BEAMNETTLE_MOST_BOXES; i++)
-        boxes[i] = (struct beamnettle_box){.a = 1, .d = 1, .x = 10.0f * (float)i, .y = 3, .extent_x = 2, .extent_y = 1};
+    put_boxes();
     CHECK(beamnettle_touch(boxes, 256, 1, 0, 3) == BEAMNETTLE_FIRST_PLACE);
     CHECK(beamnettle_touch(boxes, 256, 1, 2551, 3.5f) == BEAMNETTLE_FIRST_PLACE + 255);
     CHECK(beamnettle_touch(boxes, 255, 1, 2551, 3.5f) == BEAMNETTLE_NO_FRAME);
@@ -1060,6 +1085,131 @@ static void touching(void) {
     CHECK(beamnettle_touch(boxes + 8, 248, INFINITY, 80, 3) == BEAMNETTLE_NUMBER_OUT_OF_RANGE);
     CHECK(beamnettle_touch(boxes, 7, INFINITY, 0, 3) == BEAMNETTLE_NUMBER_OUT_OF_RANGE);
     CHECK(beamnettle_touch(boxes, 7, 1, 0, 1048577) == BEAMNETTLE_NUMBER_OUT_OF_RANGE);
+}
+
+static void inside_as_an_array(void) {
+    size_t same = 0, yes = 0;
+    for (size_t point = 0; point < POINTS; point++) {
+        float safe[BOX];
+        area_at(point, safe);
+        uint32_t number = beamnettle_inside(&SAMPLE_BOX, 1, safe, BOX, FRINGE);
+        same += number == by_contains(SAMPLE, point);
+        yes += number == BEAMNETTLE_YES;
+    }
+    CHECK(same == POINTS);
+    CHECK(yes > 0 && yes < POINTS);
+    shows(by_contains);
+}
+
+/* The first boxes in a safe area, of which so many floats are lent. Neither is changed, nor what lies behind. */
+static uint32_t inside(size_t n, const float *safe, size_t length, float fringe) {
+    static struct beamnettle_box kept[BEAMNETTLE_MOST_BOXES + 1];
+    float area[BOX + 2] = {[BOX] = NAN, [BOX + 1] = 7}, same[BOX + 2];
+    memcpy(kept, boxes, sizeof kept);
+    memcpy(area, safe, BOX * sizeof *safe);
+    memcpy(same, area, sizeof area);
+    uint32_t number = beamnettle_inside(boxes, n, area, length, fringe);
+    CHECK(memcmp(kept, boxes, sizeof kept) == 0);
+    CHECK(memcmp(same, area, sizeof area) == 0);
+    return number;
+}
+
+/* The first 4,096 boxes just fill this. */
+static const float SAFE[BOX] = {1, 0, 0, 1, 20475, 3, 20477, 1};
+/* Less than a fringe width across, and so without a coverage. */
+static const float THIN[BOX] = {1, 0, 0, 1, 0, 3, 0.4375f, 4};
+
+static void placing_inside(void) {
+    put_boxes();
+    CHECK(inside(0, SAFE, BOX, 1) == BEAMNETTLE_YES);
+    CHECK(inside(1, SAFE, BOX, 1) == BEAMNETTLE_YES);
+    CHECK(inside(BEAMNETTLE_MOST_BOXES, SAFE, BOX, 1) == BEAMNETTLE_YES);
+    CHECK(inside(BEAMNETTLE_MOST_BOXES, SAFE, BOX + 2, 1) == BEAMNETTLE_YES);
+    CHECK(inside(BEAMNETTLE_MOST_BOXES + 1, SAFE, BOX, 1) == BEAMNETTLE_TOO_MANY_BOXES);
+    /* half a fringe width past the safe area, and one float further */
+    boxes[4095].x = 40950.5f;
+    CHECK(inside(4096, SAFE, BOX, 1) == BEAMNETTLE_YES);
+    boxes[4095].x = nextafterf(40950.5f, 40951);
+    CHECK(inside(4096, SAFE, BOX, 1) == BEAMNETTLE_FIRST_PLACE + 4095);
+    CHECK(inside(4096, SAFE, BOX, 2) == BEAMNETTLE_YES);
+    CHECK(inside(4095, SAFE, BOX, 1) == BEAMNETTLE_YES);
+    /* of those outside the lowest place */
+    boxes[2000].extent_y = 1.75f;
+    CHECK(inside(4096, SAFE, BOX, 1) == BEAMNETTLE_FIRST_PLACE + 2000);
+    CHECK(inside(2001, SAFE, BOX, 1) == BEAMNETTLE_FIRST_PLACE + 2000);
+    CHECK(inside(2000, SAFE, BOX, 1) == BEAMNETTLE_YES);
+    boxes[3].y = boxes[1].y = 4;
+    CHECK(inside(4096, SAFE, BOX, 1) == BEAMNETTLE_FIRST_PLACE + 1);
+    boxes[0].x = -1;
+    CHECK(inside(4096, SAFE, BOX, 1) == BEAMNETTLE_FIRST_PLACE);
+}
+
+/* No coverage, whatever the list; and one of infinities, whose distances are NaN. */
+static void hardly_covering(void) {
+    put_boxes();
+    boxes[0].x = -1;
+    for (size_t n = 0; n < 2; n++) {
+        CHECK(inside(n, THIN, BOX, 1) == BEAMNETTLE_NONE);
+        CHECK(inside(n, SAFE, BOX, 0) == BEAMNETTLE_NONE);
+        CHECK(inside(n, SAFE, BOX, -1) == BEAMNETTLE_NONE);
+        CHECK(inside(4096 * n, THIN, BOX, 1) == BEAMNETTLE_NONE);
+    }
+    CHECK(inside(0, SAFE, BOX, 1e-45f) == BEAMNETTLE_YES);
+    CHECK(inside(1, SAFE, BOX, 1e-45f) == BEAMNETTLE_FIRST_PLACE);
+}
+
+/* A square of these half extents in one of 4. */
+static uint32_t squared(float extent, float fringe) {
+    const float four[BOX] = {1, 0, 0, 1, 0, 0, 4, 4};
+    boxes[0] = (struct beamnettle_box){.a = 1, .d = 1, .extent_x = extent, .extent_y = extent};
+    return inside(1, four, BOX, fringe);
+}
+
+static void squares_inside(void) {
+    static const float FRINGES[] = {1, 2, 0.25f};
+    for (size_t i = 0; i < 3; i++) {
+        const float fringe = FRINGES[i], half = 4 + fringe / 2;
+        CHECK(squared(4, fringe) == BEAMNETTLE_YES);
+        CHECK(squared(half, fringe) == BEAMNETTLE_YES);
+        CHECK(squared(nextafterf(half, 0), fringe) == BEAMNETTLE_YES);
+        CHECK(squared(nextafterf(half, 9), fringe) == BEAMNETTLE_FIRST_PLACE);
+        CHECK(squared(4 + fringe, fringe) == BEAMNETTLE_FIRST_PLACE);
+    }
+}
+
+/* Numbers in their order; every box is checked, whatever was found. */
+static void refusing_inside(void) {
+    put_boxes();
+    CHECK(inside(1, SAFE, 0, 1) == BEAMNETTLE_BUFFER_TOO_SHORT);
+    CHECK(inside(1, SAFE, BOX - 1, 1) == BEAMNETTLE_BUFFER_TOO_SHORT);
+    CHECK(inside(4097, SAFE, BOX - 1, NAN) == BEAMNETTLE_BUFFER_TOO_SHORT);
+    CHECK(inside(1, SAFE, BOX, NAN) == BEAMNETTLE_NUMBER_OUT_OF_RANGE);
+    CHECK(inside(0, SAFE, BOX, INFINITY) == BEAMNETTLE_NUMBER_OUT_OF_RANGE);
+    CHECK(inside(0, SAFE, BOX, 1048577) == BEAMNETTLE_NUMBER_OUT_OF_RANGE);
+    CHECK(inside(1, THIN, BOX, NAN) == BEAMNETTLE_NUMBER_OUT_OF_RANGE);
+    CHECK(inside(0, IMPROPER, BOX, 1) == BEAMNETTLE_IMPROPER_BOX);
+    CHECK(inside(1, IMPROPER, BOX, NAN) == BEAMNETTLE_IMPROPER_BOX);
+    CHECK(inside(1, INFINITE, BOX, 1) == BEAMNETTLE_NUMBER_OUT_OF_RANGE);
+    CHECK(inside(4097, IMPROPER, BOX, NAN) == BEAMNETTLE_TOO_MANY_BOXES);
+    /* the list's boxes before the safe area, and a box at fault behind one that is outside */
+    boxes[0].y = 9;
+    boxes[1].extent_y = -1;
+    boxes[2].d = INFINITY;
+    boxes[4095].radius_x = 3;
+    CHECK(inside(1, SAFE, BOX, 1) == BEAMNETTLE_FIRST_PLACE);
+    CHECK(inside(2, SAFE, BOX, 1) == BEAMNETTLE_IMPROPER_BOX);
+    CHECK(inside(2, INFINITE, BOX, 1) == BEAMNETTLE_IMPROPER_BOX);
+    CHECK(inside(2, THIN, BOX, NAN) == BEAMNETTLE_IMPROPER_BOX);
+    boxes[1].extent_y = 1;
+    CHECK(inside(3, SAFE, BOX, 1) == BEAMNETTLE_NUMBER_OUT_OF_RANGE);
+    CHECK(inside(3, IMPROPER, BOX, 1) == BEAMNETTLE_NUMBER_OUT_OF_RANGE);
+    CHECK(inside(3, THIN, BOX, 0) == BEAMNETTLE_NUMBER_OUT_OF_RANGE);
+    boxes[2].d = 1;
+    CHECK(inside(4095, SAFE, BOX, 1) == BEAMNETTLE_FIRST_PLACE);
+    CHECK(inside(4096, SAFE, BOX, 1) == BEAMNETTLE_IMPROPER_BOX);
+    for (size_t i = 0; i < 4097; i++) boxes[i].a = NAN;
+    CHECK(inside(4096, SAFE, BOX, 1) == BEAMNETTLE_NUMBER_OUT_OF_RANGE);
+    CHECK(inside(4097, SAFE, BOX, 1) == BEAMNETTLE_TOO_MANY_BOXES);
 }
 
 /* ---- a length of 0 with no address, as of an empty vector */
@@ -1100,6 +1250,9 @@ static void nothing(void) {
     CHECK(beamnettle_parallel(NULL, 0, NULL, 0) == BEAMNETTLE_BUFFER_TOO_SHORT);
     CHECK(beamnettle_contains(NULL, 0, NULL, 0) == BEAMNETTLE_BUFFER_TOO_SHORT);
     CHECK(beamnettle_touch(NULL, 0, 1, 2, 3) == BEAMNETTLE_NO_FRAME);
+    CHECK(beamnettle_inside(NULL, 0, SAFE, BOX, 1) == BEAMNETTLE_YES);
+    CHECK(beamnettle_inside(NULL, 0, THIN, BOX, 1) == BEAMNETTLE_NONE);
+    CHECK(beamnettle_inside(NULL, 0, NULL, 0, 1) == BEAMNETTLE_BUFFER_TOO_SHORT);
     CHECK(beamnettle_with_scissor(NULL, 0, NULL, 0, 1, NULL, 0, NULL, 0) == BEAMNETTLE_BUFFER_TOO_SHORT);
     CHECK(beamnettle_trimmed_scissor(NULL, 0, NULL, 0, 1, NULL, 0) == BEAMNETTLE_BUFFER_TOO_SHORT);
     CHECK(beamnettle_rect_fill(NULL, 0, NULL, 0, 1, NULL, 0) == BEAMNETTLE_BUFFER_TOO_SHORT);
@@ -1136,7 +1289,13 @@ int main(void) {
     filling_upright();
     reaching();
     holding();
+    touching_as_an_array();
     touching();
+    inside_as_an_array();
+    placing_inside();
+    hardly_covering();
+    squares_inside();
+    refusing_inside();
     nothing();
     printf("%u checks of the header, %u failed\n", checks, failed);
     return failed > 0;

@@ -1,5 +1,5 @@
 //! Random and hostile calls on boxes.
-use crate::{call::Call, curves, random::Random, scissors, touches};
+use crate::{call::Call, curves, insides, random::Random, scissors, touches};
 use femtovg::calls::{self, Box10, Coverage11, Frame};
 
 pub const LIMIT: f32 = 1_048_576.0;
@@ -248,7 +248,7 @@ pub fn call(random: &mut Random) -> Call {
         return scissors::call(random);
     }
     let one = shape(random);
-    match random.below(11) {
+    match random.below(12) {
         0 | 1 => {
             let (mut verbs, mut positions) = outline(random);
             for _ in 0..random.pick(&[0, 0, 1, 2]) {
@@ -285,6 +285,7 @@ pub fn call(random: &mut Random) -> Call {
             }
         }
         9 => touches::list(random),
+        10 => insides::list(random),
         _ if random.one_in(3) => Call::Bounds { one },
         _ => Call::Distance {
             coverage: coverage(random, one),

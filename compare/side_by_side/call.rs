@@ -1,10 +1,10 @@
 //! A call on boxes, put to both engines.
 use crate::{
-    lending::{answer, done, Floats, Lending},
+    lending::{answer, done, place, plain, Counted, Floats, Lending},
     library,
     random::Random,
 };
-use femtovg::calls::{self, Bounds4, Box10, Coverage11, Fill, Fitted, Frame};
+use femtovg::calls::{self, Bounds4, Box10, Coverage11, Fill, Fitted, Frame, Inside, Refused};
 use std::fmt;
 
 pub enum Call {
@@ -57,6 +57,11 @@ pub enum Call {
         fringe: f32,
         point: [f32; 2],
     },
+    Inside {
+        boxes: Vec<Box10>,
+        safe: Box10,
+        fringe: f32,
+    },
     WithScissor {
         one: Box10,
         two: Box10,
@@ -95,7 +100,7 @@ impl fmt::Display for Call {
             verbs.iter().try_for_each(|verb| write!(f, " {verb}"))?;
             write!(f, " {}", positions.len())?;
         }
-        if let Call::Touch { boxes, .. } = self {
+        if let Call::Touch { boxes, .. } | Call::Inside { boxes, .. } = self {
             write!(f, " {}", boxes.len())?;
         }
         write!(f, "{}", Floats(&self.floats()))
@@ -117,6 +122,7 @@ impl Call {
             Call::Bounds { .. } => "bounds",
             Call::Distance { .. } => "distance",
             Call::Touch { .. } => "touch",
+            Call::Inside { .. } => "inside",
             Call::WithScissor { .. } => "with_scissor",
             Call::TrimmedScissor { .. } => "trimmed_scissor",
             Call::RectFill { .. } => "rect_fill",
@@ -165,6 +171,11 @@ impl Call {
                 fringe,
                 point,
             } => [&boxes.concat()[..], &[*fringe], point].concat(),
+            Call::Inside {
+                boxes,
+                safe,
+                fringe,
+            } => [&boxes.concat()[..], safe, &[*fringe]].concat(),
             Call::Reach { coverage } => coverage.to_vec(),
             Call::Holds { coverage, bounds } => [&coverage[..], bounds].concat(),
         }
@@ -190,6 +201,14 @@ impl Call {
                 fringe,
                 point,
             } => touch(lending, boxes, *fringe, *point),
+            Call::Inside {
+                boxes,
+                safe,
+                fringe,
+            } => {
+                let old = calls::inside(boxes, *safe, *fringe);
+                inside(lending, old, boxes, safe, *fringe)
+            }
             Call::WithScissor { one, two, fringe } => with_scissor(lending, one, two, *fringe),
             Call::TrimmedScissor { one, two, fringe } => {
                 trimmed_scissor(lending, one, two, *fringe)
@@ -290,8 +309,36 @@ fn distance(lending: Lending, coverage: &Coverage11, point: [f32; 2]) -> Compare
 }
 
 fn touch(lending: Lending, boxes: &[Box10], fringe: f32, point: [f32; 2]) -> Compared {
-    let old = calls::touch(boxes, fringe, point);
-    lending.touched(old, boxes, |boxes| library::touch(boxes, fringe, point))
+    let old = match calls::touch(boxes, fringe, point) {
+        Ok(Some(at)) => place(at),
+        Ok(None) => plain(library::NO_FRAME),
+        Err(number) => plain(number),
+    };
+    lending.listed(old, boxes, [], |boxes, []| {
+        library::touch(boxes, fringe, point)
+    })
+}
+
+fn placed(old: Result<Inside, Refused>) -> Counted {
+    match old {
+        Ok(Inside::All) => plain(library::YES),
+        Ok(Inside::Not(at)) => place(at),
+        Ok(Inside::NoBox) => plain(library::NONE),
+        Err(number) => plain(number),
+    }
+}
+
+/// Compares the library's answer with this one.
+pub fn inside(
+    lending: Lending,
+    old: Result<Inside, Refused>,
+    boxes: &[Box10],
+    safe: &Box10,
+    fringe: f32,
+) -> Compared {
+    lending.listed(placed(old), boxes, [safe], |boxes, [safe]| {
+        library::inside(boxes, safe, fringe)
+    })
 }
 
 fn with_scissor(lending: Lending, one: &Box10, two: &Box10, fringe: f32) -> Compared {

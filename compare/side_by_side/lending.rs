@@ -129,15 +129,17 @@ impl Lending<'_> {
         Ok(number)
     }
 
-    /// Compares a touch, place by place.
-    pub fn touched(
+    /// Compares a call on a list of boxes, and on floats besides, place by place.
+    pub fn listed<const N: usize>(
         mut self,
-        old: Result<Option<usize>, Refused>,
+        answer: Counted,
         boxes: &[Box10],
-        call: impl Fn(&[Box10]) -> u32,
+        floats: [&[f32]; N],
+        call: impl Fn(&[Box10], [&[f32]; N]) -> u32,
     ) -> Result<u8, String> {
+        let (parts, short) = self.parts(floats);
         let boxes = Lent::holding(boxes, || [0; 10].map(|_| self.rubbish()));
-        let new = call(boxes.lent());
+        let new = call(boxes.lent(), parts.each_ref().map(Lent::lent));
         let same = |now: &Box10, before: &Box10| {
             let mut pairs = now.iter().zip(before);
             pairs.all(|(now, before)| same_bits(now, before))
@@ -145,16 +147,26 @@ impl Lending<'_> {
         if !boxes.kept(0, same) {
             return Err(changed());
         }
-        let (number, counted) = match old {
-            Ok(Some(place)) => (library::FIRST_PLACE + place as u32, library::DONE),
-            Ok(None) => (library::NO_FRAME.into(), library::NO_FRAME),
-            Err(number) => (number.into(), number),
+        let (number, counted) = if short {
+            plain(library::TOO_SHORT)
+        } else {
+            answer
         };
-        if new != number {
-            return Err(format!("number {new}, expected {number}"));
-        }
+        expected(new, number, &parts)?;
         Ok(counted)
     }
+}
+
+/// What a call on a list is to return, and as which number that counts.
+pub type Counted = (u32, u8);
+
+pub fn plain(number: u8) -> Counted {
+    (number.into(), number)
+}
+
+/// A place counts as done.
+pub fn place(at: usize) -> Counted {
+    (library::FIRST_PLACE + at as u32, library::DONE)
 }
 
 /// Whether less is lent somewhere than is needed.
@@ -164,7 +176,11 @@ fn too_short<const N: usize>(lent: &[Lent<f32>; N], needed: [usize; N]) -> bool 
 }
 
 /// Whether the number is the one expected, and what was lent to be read is as it was.
-fn expected(new: u8, number: u8, parts: &[Lent<f32>]) -> Result<(), String> {
+fn expected<T: PartialEq + fmt::Display>(
+    new: T,
+    number: T,
+    parts: &[Lent<f32>],
+) -> Result<(), String> {
     if new != number {
         return Err(format!("number {new}, expected {number}"));
     }

@@ -9,7 +9,7 @@ pub const NO_FRAME: u8 = 35;
 pub const SHARED: u8 = 36;
 pub const COVERED: u8 = 37;
 pub const CUT: u8 = 38;
-/// The number of place 0 of a touch list.
+/// The number of place 0 of a list of boxes.
 pub const FIRST_PLACE: u32 = 256;
 /// What a file's length is added to.
 pub const FIRST_LENGTH: u32 = 256;
@@ -171,6 +171,13 @@ mod c {
             fringe: f32,
             x: f32,
             y: f32,
+        ) -> u32;
+        pub fn beamnettle_inside(
+            boxes: *const [f32; 10],
+            boxes_length: usize,
+            safe: *const f32,
+            safe_length: usize,
+            fringe: f32,
         ) -> u32;
         pub fn beamnettle_with_scissor(
             clip: *const f32,
@@ -477,6 +484,18 @@ pub fn contains(coverage: &[f32], shape: &[f32]) -> u8 {
 pub fn touch(boxes: &[[f32; 10]], fringe: f32, point: [f32; 2]) -> u32 {
     let [x, y] = point;
     unsafe { c::beamnettle_touch(boxes.as_ptr(), boxes.len(), fringe, x, y) }
+}
+
+pub fn inside(boxes: &[[f32; 10]], safe: &[f32], fringe: f32) -> u32 {
+    unsafe {
+        c::beamnettle_inside(
+            boxes.as_ptr(),
+            boxes.len(),
+            safe.as_ptr(),
+            safe.len(),
+            fringe,
+        )
+    }
 }
 
 pub fn with_scissor(

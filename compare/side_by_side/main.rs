@@ -13,6 +13,7 @@ mod fraction;
 mod holds;
 mod ink;
 mod ink_sweep;
+mod insides;
 mod lending;
 mod lent;
 mod library;
@@ -62,6 +63,7 @@ struct Counts {
     differ: u64,
     chains: u64,
     touches: touches::Counts,
+    insides: insides::Counts,
     curves: curves::Counts,
     files: pgm::Counts,
     seen: Seen,
@@ -124,6 +126,7 @@ impl Counts {
         self.show_placed();
         self.seen.ink.show();
         self.touches.show();
+        self.insides.show();
         self.curves.show();
         self.files.show();
         println!(
@@ -151,6 +154,7 @@ fn put_box_call(call: Call, random: &mut Random, counts: &mut Counts) {
     match call.compare(random) {
         Ok(number) => {
             counts.touches.count(&call);
+            counts.insides.count(&call);
             counts.curves.count(&call);
             counts.answer(call.kind(), number);
         }

@@ -7,7 +7,7 @@ use crate::{
 use femtovg::calls::{self, Box10};
 
 /// A box that is not refused.
-fn proper(random: &mut Random) -> Box10 {
+pub fn proper(random: &mut Random) -> Box10 {
     loop {
         let one = shape(random);
         if calls::bounds(one).is_ok() {
@@ -16,7 +16,7 @@ fn proper(random: &mut Random) -> Box10 {
     }
 }
 
-fn length(random: &mut Random) -> usize {
+pub fn length(random: &mut Random) -> usize {
     match random.below(40) {
         0 => random.pick(&[255, 256, 257]),
         1 => random.below(261),
@@ -34,6 +34,16 @@ pub fn spoil(random: &mut Random, one: &mut Box10) {
         1 => one[at] = random.pick(&[f32::NAN, f32::INFINITY, -f32::INFINITY, 2.0 * LIMIT]),
         2 => one[side] = -1e-40,
         _ => one[side + 2] = f32::from_bits(one[side].to_bits() + 1),
+    }
+}
+
+/// Makes a few boxes of one list in four such.
+pub fn spoil_some(random: &mut Random, boxes: &mut [Box10]) {
+    if random.one_in(4) && !boxes.is_empty() {
+        for _ in 0..random.pick(&[1, 1, 2, 3]) {
+            let at = random.below(boxes.len());
+            spoil(random, &mut boxes[at]);
+        }
     }
 }
 
@@ -98,13 +108,18 @@ fn held(random: &mut Random, fringe: f32) -> Box10 {
     one
 }
 
-/// A long list: a few kinds of boxes, most of them far away, and at a few places the box near which the point is to be.
-fn sheet(random: &mut Random, fringe: f32) -> (Vec<Box10>, Box10) {
-    let n = match random.below(4) {
+/// The length of a long list.
+pub fn sheet_length(random: &mut Random) -> usize {
+    match random.below(4) {
         0 => random.pick(&[4095, 4096, 4097, 4100]),
         1 => random.pick(&[256, 257, 258, 511, 512, 513]),
         _ => 1 + random.below(4100),
-    };
+    }
+}
+
+/// A long list: a few kinds of boxes, most of them far away, and at a few places the box near which the point is to be.
+fn sheet(random: &mut Random, fringe: f32) -> (Vec<Box10>, Box10) {
+    let n = sheet_length(random);
     let far = [(); 8].map(|_| {
         let mut one = proper(random);
         one[4] += random.pick(&[-500_000.0, 500_000.0]);
@@ -149,12 +164,7 @@ fn aimed(random: &mut Random, fringe: f32) -> (Vec<Box10>, Box10) {
 pub fn list(random: &mut Random) -> Call {
     let fringe = fringe(random);
     let (mut boxes, aim) = aimed(random, fringe);
-    if random.one_in(4) && !boxes.is_empty() {
-        for _ in 0..random.pick(&[1, 1, 2, 3]) {
-            let at = random.below(boxes.len());
-            spoil(random, &mut boxes[at]);
-        }
-    }
+    spoil_some(random, &mut boxes);
     let point = match random.below(6) {
         _ if boxes.len() > 256 && random.one_in(2) => [aim[4], aim[5]],
         0 => on_frame(random, aim),
@@ -166,6 +176,12 @@ pub fn list(random: &mut Random) -> Call {
         fringe,
         point,
     }
+}
+
+/// The boxes before the first at fault, if one is.
+pub fn before_fault(boxes: &[Box10]) -> Option<&[Box10]> {
+    let faulty = |one: &Box10| calls::bounds(*one).is_err();
+    boxes.iter().position(faulty).map(|at| &boxes[..at])
 }
 
 /// What is counted of touch lists.
@@ -199,10 +215,9 @@ impl Counts {
         self.above += (places.len() >= 2 && places[0] > 0) as u64;
         self.long += (boxes.len() > 256) as u64;
         self.past_byte += places.first().is_some_and(|place| *place > 255) as u64;
-        let faulty = |one: &Box10| calls::bounds(*one).is_err();
-        if let Some(at) = boxes.iter().position(faulty) {
-            let before = calls::touch(&boxes[..at], *fringe, *point);
-            self.behind += matches!(before, Ok(Some(_))) as u64;
+        if let Some(before) = before_fault(boxes) {
+            let touched = calls::touch(before, *fringe, *point);
+            self.behind += matches!(touched, Ok(Some(_))) as u64;
         }
     }
 

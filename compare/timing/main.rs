@@ -465,9 +465,15 @@ fn boxes() {
             black_box(library::distance(black_box(&floats), point, out));
         },
     );
-    line("contains", &mut || covering.contains(&second), &mut || {
-        black_box(library::contains(black_box(&floats), &two));
-    });
+    line(
+        "contains",
+        &mut || {
+            black_box(covering.contains(&second));
+        },
+        &mut || {
+            black_box(library::contains(black_box(&floats), &two));
+        },
+    );
 }
 
 /// Times a call on two boxes.
@@ -557,8 +563,8 @@ fn holds() {
     );
 }
 
-/// Turned frames in a row, the last of which is touched.
-fn touches() {
+/// Turned frames in a row.
+fn row(frames: usize) -> Vec<Box10> {
     let (sin, cos) = (TAU / 12.0).sin_cos();
     let [sin, cos] = [sin as f32, cos as f32];
     let frame = |at: usize| {
@@ -566,8 +572,13 @@ fn touches() {
         one[4] = 120.0 * at as f32;
         one
     };
+    (0..frames).map(frame).collect()
+}
+
+/// The last of them is touched.
+fn touches() {
     for frames in [4, 256, 1024, 4096] {
-        let boxes: Vec<Box10> = (0..frames).map(frame).collect();
+        let boxes = row(frames);
         let shapes: Vec<Shape> = boxes.iter().copied().map(Shape::new).collect();
         let point = [boxes[frames - 1][4], 80.0];
         assert_eq!(library::touch(&boxes, 1.0, point), 255 + frames as u32);
@@ -582,6 +593,42 @@ fn touches() {
             },
         );
     }
+}
+
+/// Frames in a safe area around all of them from the `first` on. femtovg has no call on a list: its coverage and its
+/// `contains`, box by box up to one outside, behind the same checks of all boxes.
+fn inside(name: &str, frames: usize, first: usize) {
+    let boxes = row(frames);
+    let shapes: Vec<Shape> = boxes.iter().copied().map(Shape::new).collect();
+    let [left, right] = [boxes[first][4] - 60.0, boxes[frames - 1][4] + 60.0];
+    let (centre, half) = ((left + right) / 2.0, (right - left) / 2.0);
+    let safe: Box10 = [1.0, 0.0, 0.0, 1.0, centre, 80.0, half, 60.0, 5.0, 5.0];
+    let (place, number) = match first {
+        0 => (None, library::YES.into()),
+        _ => (Some(0), library::FIRST_PLACE),
+    };
+    assert_eq!(library::inside(&boxes, &safe, 1.0), number);
+    let area = Shape::new(safe);
+    line(
+        name,
+        &mut || {
+            assert_eq!(calls::check_boxes(black_box(&boxes)), Ok(()));
+            assert_eq!(calls::check_boxes(black_box(&[safe])), Ok(()));
+            let covering = area.covering(black_box(1.0)).expect("a coverage");
+            let outside = |shape: &Shape| !covering.contains(shape);
+            assert_eq!(shapes.iter().position(outside), place);
+        },
+        &mut || {
+            black_box(library::inside(black_box(&boxes), &safe, 1.0));
+        },
+    );
+}
+
+fn insides() {
+    inside("inside, 1 frame", 1, 0);
+    inside("inside, 256 frames", 256, 0);
+    inside("inside, 4,096 frames", 4096, 0);
+    inside("inside, 4,096 frames, the first outside", 4096, 1);
 }
 
 // ---- outlines with curves
@@ -635,4 +682,5 @@ fn main() {
     upright_rect();
     holds();
     touches();
+    insides();
 }

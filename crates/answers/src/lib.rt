@@ -11,6 +11,7 @@ use fill::RectFill;
 use fit::CutAnswer;
 use fit::OutlineAnswer;
 use geometry::Bounds;
+use inside::InsideAnswer;
 use libc::STDOUT_FILENO;
 use mask::Outcome;
 use pgm::ReadAnswer;
@@ -235,8 +236,17 @@ pub fn test(answer: TestAnswer) {
 
 pub fn touch(answer: TouchAnswer) {
     match answer {
-        TouchAnswer::Frame(k) => writing::place(k),
+        TouchAnswer::Frame(k) => writing::place(b"frame ", k),
         TouchAnswer::NoFrame => writing::write(b"noframe\n"),
         TouchAnswer::Refused(fault) => refused(fault),
+    }
+}
+
+pub fn inside(answer: InsideAnswer) {
+    match answer {
+        InsideAnswer::AllInside => writing::write(b"inside\n"),
+        InsideAnswer::Outside(k) => writing::place(b"outside ", k),
+        InsideAnswer::NoBox => writing::write(b"nobox\n"),
+        InsideAnswer::Refused(fault) => refused(fault),
     }
 }

@@ -1,20 +1,23 @@
 // The kiosk's C library: the documents' calls over numbers and lent slices. include/beamnettle.h says
 // what each does in words; each contract gives its number and all that is lent afterwards outright.
+use lent_floats::BOX;
 use shape::RoundedBox;
 ghost use mathlib.Core.Path.{_≡_};
 ghost use lib.ListN.{length};
 ghost use Rattle.ink.specs.Lent.{lent};
 ghost use Rattle.mask.specs.Calls.{outcomeNumber, drawAnswer, layAnswer, layPlacedAnswer};
 ghost use Rattle.touch.specs.Touch.{pointOf, touchCall};
-ghost use Rattle.boundary.specs.Answers.{after, boxHanded, coverageHanded, boundsHanded, distanceHanded, testNumber, touchNumber};
+ghost use Rattle.boundary.specs.Answers.{after, boxHanded, coverageHanded, boundsHanded, distanceHanded, testNumber, touchNumber, insideNumber};
 ghost use Rattle.boundary.specs.Answers.{bothBoxHanded, bothCoverageHanded, fillHanded, outlineHanded, cutHanded, writeNumber, readNumber, sizeAfter, cornerAfter};
 ghost use Rattle.mask_exports.specs.Calls.{drawingLent, maskDrawn, inkDrawn, floatsDrawn, countersDrawn};
 ghost use Rattle.mask_exports.specs.Calls.{layingLent, maskLaid, inkLaid, placedLent, maskLaidPlaced, inkLaidPlaced};
 ghost use Rattle.pgm_exports.specs.Calls.{writeLent, fileWritten, readLent, maskRead, inkRead};
 ghost use Rattle.outline_exports.specs.Calls.{fitLent, fitOutlineLent, fitWithCutLent};
 ghost use Rattle.box_exports.specs.Calls.{transformedLent, intersectionLent, rectIntersectionLent, coverageLent};
-ghost use Rattle.box_exports.specs.Calls.{boundsLent, distanceLent, parallelLent, containsLent};
+ghost use Rattle.box_exports.specs.Calls.{boundsLent, distanceLent, parallelLent, containsLent, insideLent};
 ghost use Rattle.window_exports.specs.Calls.{withScissorLent, trimmedScissorLent, rectFillLent, uprightRectLent, reachLent, holdsLent};
+
+const TOO_SHORT: u32 = 4;
 
 // ---- masks: crate mask_exports has the calls
 
@@ -305,12 +308,22 @@ pub extern "C" fn beamnettle_holds(k: &[f32], bounds: &[f32]) -> u8
     window_exports::holds(k, bounds)
 }
 
-// ---- the touch list
+// ---- lists of boxes. Proved by hand, as `touch::touch` and `inside::all_inside` are: the borrow checker
+// covers no function with a slice of structs
 
-// Proved by hand, as `touch::touch` is: the borrow checker covers no function with a slice of structs.
 #[no_mangle]
 pub extern "C" fn beamnettle_touch(boxes: &[RoundedBox], fringe: f32, x: f32, y: f32) -> u32
     ensures { λ r. ⌜ r ≡ touchNumber (touchCall (now (boxes .entry)) fringe (pointOf x y)) ⌝ }
 {
     boundary::touch_number(touch::touch(boxes, fringe, x, y))
+}
+
+#[no_mangle]
+pub extern "C" fn beamnettle_inside(boxes: &[RoundedBox], safe: &[f32], fringe: f32) -> u32
+    ensures { λ r. ⌜ r ≡ insideNumber (insideLent (now (boxes .entry)) (now (safe .entry)) fringe) ⌝ }
+{
+    if safe.len() < BOX {
+        return TOO_SHORT;
+    }
+    boundary::inside_number(inside::all_inside(boxes, boxes::box_at(safe, 0), fringe))
 }

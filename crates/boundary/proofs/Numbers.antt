@@ -30,6 +30,8 @@ use Rattle.fill.specs.declared.FillAnswer.{FillAnswer}
 use Rattle.fill.specs.declared.FillAnswer.the-variants as filled
 use Rattle.touch.specs.declared.TouchAnswer.{TouchAnswer}
 use Rattle.touch.specs.declared.TouchAnswer.the-variants as touched
+use Rattle.inside.specs.declared.InsideAnswer.{InsideAnswer}
+use Rattle.inside.specs.declared.InsideAnswer.the-variants as insides
 use Rattle.fit.specs.declared.OutlineAnswer.{OutlineAnswer}
 use Rattle.fit.specs.declared.OutlineAnswer.the-variants as outline
 use Rattle.fit.specs.declared.CutAnswer.{CutAnswer}
@@ -40,7 +42,7 @@ use Rattle.pgm.specs.declared.ReadAnswer.{ReadAnswer}
 use Rattle.pgm.specs.declared.ReadAnswer.the-variants as read
 use Rattle.boundary.specs.Outcomes.{Ordinary, done, none, yes, no, noFrame, shared, covered, cut, counted, ordinaryNumber}
 use Rattle.boundary.specs.Answers.{boxHanded, coverageHanded, boundsHanded, distanceHanded, bothBoxHanded, fillHanded, outlineHanded, cutHanded}
-use Rattle.boundary.specs.Answers.{reachHanded, testNumber, touchNumber, writeNumber, readNumber}
+use Rattle.boundary.specs.Answers.{reachHanded, testNumber, touchNumber, insideNumber, writeNumber, readNumber}
 use Rattle.boundary.specs.Numbers.{CauseExactlyWhen, NumbersApart}
 
 -- ---- outcomes
@@ -164,6 +166,12 @@ touch-within (touched.Frame k) low high = absurd (outside (counted k) low high)
 touch-within touched.NoFrame low high = absurd (outside noFrame low high)
 touch-within (touched.Refused f) low high = (f, refl)
 
+inside-within : (a : InsideAnswer) → 1 ≤ insideNumber a → insideNumber a ≤ 31 → (f : Fault) × (a ≡ insides.Refused f)
+inside-within insides.AllInside low high = absurd (outside yes low high)
+inside-within (insides.Outside k) low high = absurd (outside (counted k) low high)
+inside-within insides.NoBox low high = absurd (outside none low high)
+inside-within (insides.Refused f) low high = (f, refl)
+
 write-within : (a : WriteAnswer) → 1 ≤ writeNumber a → writeNumber a ≤ 31 → (f : Fault) × (a ≡ write.Refused f)
 write-within (write.Written n) low high = absurd (outside (counted n) low high)
 write-within (write.Refused f) low high = (f, refl)
@@ -190,6 +198,7 @@ numbers-apart = record {
   reach-never-ten = reach-never-ten;
   test = told testNumber test.Refused (λ f. refl) test-within;
   touch = told touchNumber touched.Refused (λ f. refl) touch-within;
+  all-inside = told insideNumber insides.Refused (λ f. refl) inside-within;
   write = told writeNumber write.Refused (λ f. refl) write-within;
   read = told readNumber read.Refused (λ f. refl) read-within;
 }

@@ -21,6 +21,8 @@ use Rattle.shape.specs.declared.TestAnswer.{TestAnswer}
 use Rattle.shape.specs.declared.TestAnswer.the-variants as test
 use Rattle.touch.specs.declared.TouchAnswer.{TouchAnswer}
 use Rattle.touch.specs.declared.TouchAnswer.the-variants as touched
+use Rattle.inside.specs.declared.InsideAnswer.{InsideAnswer}
+use Rattle.inside.specs.declared.InsideAnswer.the-variants as insides
 use Rattle.device_bounds.specs.declared.MaybeBounds.{MaybeBounds}
 use Rattle.device_bounds.specs.declared.MaybeBounds.the-variants as reached
 use Rattle.scissor.specs.declared.ScissorAnswer.{ScissorAnswer}
@@ -132,6 +134,13 @@ abbrev pub touchNumber : TouchAnswer → ℕ
 touchNumber (touched.Frame k) = ordinaryNumber (counted k)
 touchNumber touched.NoFrame = ordinaryNumber noFrame
 touchNumber (touched.Refused f) = numberOf f
+
+-- yes for all inside, the lowest place outside, or "no box" (document 02, change 10)
+abbrev pub insideNumber : InsideAnswer → ℕ
+insideNumber insides.AllInside = ordinaryNumber yes
+insideNumber (insides.Outside k) = ordinaryNumber (counted k)
+insideNumber insides.NoBox = ordinaryNumber none
+insideNumber (insides.Refused f) = numberOf f
 
 -- ---- files (document 02, changes 4 and 8)
 

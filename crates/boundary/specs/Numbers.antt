@@ -12,6 +12,7 @@ use Rattle.shape.specs.declared.BoundsAnswer.the-variants as bounds
 use Rattle.clip_coverage.specs.declared.DistanceAnswer.the-variants as distance
 use Rattle.shape.specs.declared.TestAnswer.the-variants as test
 use Rattle.touch.specs.declared.TouchAnswer.the-variants as touched
+use Rattle.inside.specs.declared.InsideAnswer.the-variants as insides
 use Rattle.device_bounds.specs.declared.MaybeBounds.{MaybeBounds}
 use Rattle.scissor.specs.declared.ScissorAnswer.the-variants as scissor
 use Rattle.fill.specs.declared.FillAnswer.the-variants as filled
@@ -21,7 +22,7 @@ use Rattle.pgm.specs.declared.WriteAnswer.the-variants as write
 use Rattle.pgm.specs.declared.ReadAnswer.the-variants as read
 use Rattle.boundary.specs.Outcomes.{Ordinary, ordinaryNumber}
 use Rattle.boundary.specs.Answers.{boxHanded, coverageHanded, boundsHanded, distanceHanded, bothBoxHanded, fillHanded, outlineHanded, cutHanded}
-use Rattle.boundary.specs.Answers.{reachHanded, testNumber, touchNumber, writeNumber, readNumber}
+use Rattle.boundary.specs.Answers.{reachHanded, testNumber, touchNumber, insideNumber, writeNumber, readNumber}
 
 -- of answers, a way to number them, and those that refuse: a number is a cause's exactly when the answer is the refusal
 -- with that cause; from 1 to 31 there is nothing else; and no number is 10. Document 02, change 5: 'Number 10 no longer
@@ -53,5 +54,6 @@ pub record NumbersApart : Type 0 where
   pub reach-never-ten : (a : MaybeBounds) → (reachHanded a) .number ≡ 10 → ⊥
   pub test : CauseExactlyWhen testNumber test.Refused
   pub touch : CauseExactlyWhen touchNumber touched.Refused
+  pub all-inside : CauseExactlyWhen insideNumber insides.Refused
   pub write : CauseExactlyWhen writeNumber write.Refused
   pub read : CauseExactlyWhen readNumber read.Refused

@@ -3,7 +3,8 @@
 use Prim.Native.Nat.{ℕ, _+_}
 
 -- done, with nothing more to say; none: "no box", no coverage, or no bounds; yes and no; "no frame"; `RectFill`'s two,
--- 'a shared box or a covered one'; cut: a box with 'the cut box where one side is square'; what is counted: the place of a touch, from 0, or the length of a file
+-- 'a shared box or a covered one'; cut: a box with 'the cut box where one side is square'; what is counted: a place in a
+-- list, from 0, or the length of a file
 pub data Ordinary : Type 0 where
   done none yes no noFrame shared covered cut : Ordinary
   counted : ℕ → Ordinary

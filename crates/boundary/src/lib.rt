@@ -7,6 +7,7 @@ use fill::FillAnswer;
 use fill::RectFill;
 use fit::CutAnswer;
 use fit::OutlineAnswer;
+use inside::InsideAnswer;
 use mask::Outcome;
 use pgm::ReadAnswer;
 use pgm::WriteAnswer;
@@ -20,7 +21,7 @@ ghost use Prim.Native.Nat.{_≤_};
 ghost use lib.ListN.{length};
 ghost use Rattle.mask.specs.Calls.{outcomeNumber};
 ghost use Rattle.boundary.specs.Answers.{after, boxHanded, coverageHanded, boundsHanded, distanceHanded};
-ghost use Rattle.boundary.specs.Answers.{bothBoxHanded, bothCoverageHanded, rectFillHanded, fillHanded, outlineHanded, cutHanded, reachHanded, testNumber, touchNumber};
+ghost use Rattle.boundary.specs.Answers.{bothBoxHanded, bothCoverageHanded, rectFillHanded, fillHanded, outlineHanded, cutHanded, reachHanded, testNumber, touchNumber, insideNumber};
 ghost use Rattle.boundary.specs.Answers.{writeNumber, readNumber, sizeAfter, cornerAfter};
 
 const DONE: u8 = 0;
@@ -229,6 +230,17 @@ pub fn touch_number(answer: TouchAnswer) -> u32
         TouchAnswer::Frame(k) => FIRST_COUNTED + k as u32,
         TouchAnswer::NoFrame => NO_FRAME,
         TouchAnswer::Refused(fault) => fault.number() as u32,
+    }
+}
+
+pub fn inside_number(answer: InsideAnswer) -> u32
+    ensures { λ r. ⌜ r ≡ insideNumber answer ⌝ }
+{
+    match answer {
+        InsideAnswer::AllInside => YES as u32,
+        InsideAnswer::Outside(k) => FIRST_COUNTED + k as u32,
+        InsideAnswer::NoBox => NONE as u32,
+        InsideAnswer::Refused(fault) => fault.number() as u32,
     }
 }
 

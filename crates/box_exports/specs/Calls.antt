@@ -22,6 +22,10 @@ use Rattle.covering.specs.Calls.{coverageCall}
 use Rattle.beside.specs.Calls.{parallelCall}
 use Rattle.sides.specs.Calls.{rectIntersectionCall}
 use Rattle.overlap.specs.Calls.{intersectionCall}
+use Rattle.inside.specs.declared.InsideAnswer.{InsideAnswer}
+use Rattle.inside.specs.declared.InsideAnswer.the-variants as insides
+use Rattle.inside.specs.Inside.{insideCall}
+use Rattle.shape.specs.declared.RoundedBox.{RoundedBox}
 use Rattle.lent_floats.specs.Lent.{frameIn, boxIn, coverageIn}
 
 -- Where fewer are lent than a box, a frame, a coverage or an answer takes, number 4,
@@ -68,3 +72,7 @@ abbrev pub containsLent : List Float → List Float → TestAnswer
 containsLent k b =
     cond (ltb (length k) 11) (test.Refused BufferTooShort)
     (cond (ltb (length b) 10) (test.Refused BufferTooShort) (containsCall (coverageIn k) (boxIn b)))
+
+-- of a list and a safe area (document 02, change 10) the area is lent so; the list is lent as boxes
+abbrev pub insideLent : List RoundedBox → List Float → Float → InsideAnswer
+insideLent bs safe fringe = cond (ltb (length safe) 10) (insides.Refused BufferTooShort) (insideCall bs (boxIn safe) fringe)

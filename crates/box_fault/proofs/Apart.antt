@@ -20,6 +20,6 @@ unfolding trimmedScissorOf trimOf trimmedSidesOf cutsOf highOf lowOf withinHighO
     absOf minOf maxOf narrowOf rootBelow wholeRoot roundRoot sqrtOf hypotOf
     ofBits ofFields odd units round size span climb ofInt add sub sum mul div rem neg lt le eq ne isNan trailingZeros
 apart-shown = (
-  record { trimmed = refl; coverage = refl; with-scissor = refl; touch = refl },
-  record { trimmed = refl; coverage = refl; with-scissor = refl; touch = refl },
+  record { trimmed = refl; coverage = refl; with-scissor = refl; touch = refl; all-inside = refl; safe-area = refl },
+  record { trimmed = refl; coverage = refl; with-scissor = refl; touch = refl; all-inside = refl; safe-area = refl },
 )

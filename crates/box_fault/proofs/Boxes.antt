@@ -1,10 +1,9 @@
--- A box's check, that of two boxes and a fringe and that of a touch list, by their causes (specs/Causes.antt). Assumes
--- nothing.
+-- A box's check, that of two boxes and a fringe, of a touch list and of a list and a safe area, by their causes
+-- (specs/Causes.antt). Assumes nothing.
 use mathlib.Core.Path.{_≡_, refl, sym}
 use mathlib.Core.Bool.{Bool, true, false, _&&_}
 use mathlib.Core.Logic.{_⊎_, inl, inr}
 use mathlib.Core.List.{List, [], _∷_}
-use Prim.Native.Nat.{_≤_}
 use lib.Dec.{ltb}
 use lib.Ieee.{Float, lt}
 use lib.ListN.{length}
@@ -20,11 +19,13 @@ use Rattle.shape.specs.declared.RoundedBox.{RoundedBox}
 use Rattle.shape.specs.Checks.{inRangeOf, bothInRangeOf, frameInRangeOf, boxInRangeOf, improperSideOf, improperOf, boxCheckOf, numbersCheckOf, fringeCheckOf, pointCheckOf}
 use Rattle.beside.specs.Calls.{pairFringeCheckOf}
 use Rattle.cells.proofs.Sizes.{or-true}
-use Rattle.boxes.specs.Checks.{mostBoxes, boxesCheckOf}
+use Rattle.boxes.specs.Checks.{mostBoxes, boxesCheckOf, listCheckOf}
+use Rattle.boxes.specs.Laws.{All}
 use Rattle.touch.specs.Touch.{touchCheckOf}
+use Rattle.inside.specs.Inside.{insideCheckOf}
 use Rattle.outline.specs.Outline.{allInRangeOf}
 use Rattle.box_fault.specs.Causes.{InRange, frameNumbers, boxNumbers, ImproperSide, ProperSide, BoxFault, number, improper, Faultless, PairFault, of-first, of-second, of-fringe}
-use Rattle.box_fault.specs.Causes.{FirstAtFault, All, touchNumbers, TouchFault, too-many-boxes, of-box, of-touch}
+use Rattle.box_fault.specs.Causes.{FirstAtFault, ListFault, too-many-boxes, of-box, FaultlessList, touchNumbers, TouchFault, of-touch-list, of-touch, InsideFault, of-list, of-safe, of-safe-fringe}
 use Rattle.fault.proofs.Decided.{Decided}
 use Rattle.box_fault.proofs.Lists.{EachChecked, all-pass, first-refuses, all-decided}
 
@@ -119,10 +120,29 @@ module _ (one two : RoundedBox) (fringe : Float) where
       go (inl g) (inl k) false h = inr (NumberOutOfRange, of-fringe g k h)
       go (inl g) (inl k) true h = inl (g, k, h)
 
--- ---- a touch list
+-- ---- a list of boxes
 
 each-box : EachChecked Faultless BoxFault boxCheckOf boxesCheckOf
 each-box = record { none = refl; next = λ b bs. refl; passes = box-passes; caused = box-refused }
+
+module _ (bs : List RoundedBox) where
+  list-refused : (f : Fault) → ListFault bs f → listCheckOf bs ≡ check.Refused f
+  list-refused f (too-many-boxes l) = rw (lt-ltb _ _ l)
+  list-refused f (of-box l e) = rw (le-ltb _ _ l, first-refuses each-box bs f e)
+
+  list-passes : FaultlessList bs → listCheckOf bs ≡ check.Pass
+  list-passes h = rw (le-ltb _ _ (h .few), all-pass each-box bs (h .boxes))
+
+  list-decided : Decided (FaultlessList bs) (ListFault bs)
+  list-decided = go (ltb mostBoxes (length bs)) (all-decided box-decided bs) refl
+    where
+      go : (many : Bool) → Decided (All Faultless bs) (FirstAtFault Faultless BoxFault bs) → ltb mostBoxes (length bs) ≡ many
+          → Decided (FaultlessList bs) (ListFault bs)
+      go true d l = inr (TooManyBoxes, too-many-boxes (ltb-true _ _ l))
+      go false (inr (f, e)) l = inr (f, of-box (ltb-false _ _ l) e)
+      go false (inl g) l = inl (record { few = ltb-false _ _ l; boxes = g })
+
+-- ---- a touch list
 
 -- two checks of numbers are one test of a list
 both-checks : (a b : Bool) → (numbersCheckOf a andThen numbersCheckOf b) ≡ numbersCheckOf (a && b)
@@ -135,24 +155,44 @@ touch-numbers fringe p = rw (and-true (inRangeOf (p .y))) (both-checks (inRangeO
 
 module _ (bs : List RoundedBox) (fringe : Float) (p : Position) where
   pub touch-refused : (f : Fault) → TouchFault bs fringe p f → touchCheckOf bs fringe p ≡ check.Refused f
-  touch-refused f (too-many-boxes l) = rw (lt-ltb _ _ l)
-  touch-refused f (of-box l e) = rw (le-ltb _ _ l, first-refuses each-box bs f e)
-  touch-refused f (of-touch l g e) = rw (le-ltb _ _ l, all-pass each-box bs g, touch-numbers fringe p, e)
+  touch-refused f (of-touch-list e) = rw (list-refused bs f e)
+  touch-refused f (of-touch g e) = rw (list-passes bs g, touch-numbers fringe p, e)
 
-  pub record TouchFaultless : Type 0 where
-    pub few : length bs ≤ mostBoxes
-    pub boxes : All Faultless bs
-    pub in-range : InRange (touchNumbers fringe p)
+  abbrev pub TouchFaultless : Type 0
+  TouchFaultless = FaultlessList bs × InRange (touchNumbers fringe p)
 
   pub touch-passes : TouchFaultless → touchCheckOf bs fringe p ≡ check.Pass
-  touch-passes h = rw (le-ltb _ _ (h .few), all-pass each-box bs (h .boxes), touch-numbers fringe p, h .in-range)
+  touch-passes h = rw (list-passes bs (h .0), touch-numbers fringe p, h .1)
 
   pub touch-decided : Decided TouchFaultless (TouchFault bs fringe p)
-  touch-decided = go (ltb mostBoxes (length bs)) (all-decided box-decided bs) (allInRangeOf (touchNumbers fringe p)) refl refl
+  touch-decided = go (list-decided bs) (allInRangeOf (touchNumbers fringe p)) refl
     where
-      go : (many : Bool) → Decided (All Faultless bs) (FirstAtFault Faultless BoxFault bs) → (good : Bool) → ltb mostBoxes (length bs) ≡ many
-          → allInRangeOf (touchNumbers fringe p) ≡ good → Decided TouchFaultless (TouchFault bs fringe p)
-      go true d good l h = inr (TooManyBoxes, too-many-boxes (ltb-true _ _ l))
-      go false (inr (f, e)) good l h = inr (f, of-box (ltb-false _ _ l) e)
-      go false (inl g) false l h = inr (NumberOutOfRange, of-touch (ltb-false _ _ l) g h)
-      go false (inl g) true l h = inl (record { few = ltb-false _ _ l; boxes = g; in-range = h })
+      go : Decided (FaultlessList bs) (ListFault bs) → (good : Bool) → allInRangeOf (touchNumbers fringe p) ≡ good
+          → Decided TouchFaultless (TouchFault bs fringe p)
+      go (inr (f, e)) good h = inr (f, of-touch-list e)
+      go (inl g) false h = inr (NumberOutOfRange, of-touch g h)
+      go (inl g) true h = inl (g, h)
+
+-- ---- a list and a safe area
+
+module _ (bs : List RoundedBox) (safe : RoundedBox) (fringe : Float) where
+  pub inside-refused : (f : Fault) → InsideFault bs safe fringe f → insideCheckOf bs safe fringe ≡ check.Refused f
+  inside-refused f (of-list e) = rw (list-refused bs f e)
+  inside-refused f (of-safe g e) = rw (list-passes bs g, box-refused safe f e)
+  inside-refused f (of-safe-fringe g h e) = rw (list-passes bs g, box-passes safe h, fringe-number fringe, e)
+
+  abbrev pub InsideFaultless : Type 0
+  InsideFaultless = FaultlessList bs × Faultless safe × InRange (fringe ∷ [])
+
+  pub inside-passes : InsideFaultless → insideCheckOf bs safe fringe ≡ check.Pass
+  inside-passes h = rw (list-passes bs (h .0), box-passes safe (h .1), fringe-number fringe, h .2)
+
+  pub inside-decided : Decided InsideFaultless (InsideFault bs safe fringe)
+  inside-decided = go (list-decided bs) (box-decided safe) (allInRangeOf (fringe ∷ [])) refl
+    where
+      go : Decided (FaultlessList bs) (ListFault bs) → Decided (Faultless safe) (BoxFault safe) → (good : Bool)
+          → allInRangeOf (fringe ∷ []) ≡ good → Decided InsideFaultless (InsideFault bs safe fringe)
+      go (inr (f, e)) d good h = inr (f, of-list e)
+      go (inl g) (inr (f, e)) good h = inr (f, of-safe g e)
+      go (inl g) (inl k) false h = inr (NumberOutOfRange, of-safe-fringe g k h)
+      go (inl g) (inl k) true h = inl (g, k, h)

@@ -3,7 +3,9 @@ use mathlib.Core.Path.{_≡_, refl, sym}
 use mathlib.Core.Bool.{Bool, true, false, true≢false, cond, _||_}
 use mathlib.Core.Logic.{_⊎_, inl, inr}
 use mathlib.Core.List.{List, [], _∷_, _++_}
-use lib.Ieee.{lt}
+use Prim.Native.Nat.{_≤_}
+use lib.Ieee.{Float, lt}
+use lib.ListN.{length}
 use Rattle.float.specs.Ops.{f0}
 use Rattle.fault.specs.declared.Fault.{Fault}
 use Rattle.fault.specs.declared.Fault.the-variants.{NumberOutOfRange, ImproperBox}
@@ -11,9 +13,11 @@ use Rattle.fault.specs.declared.Check.the-variants as check
 use Rattle.fault.specs.Number.{numberOf}
 use Rattle.shape.specs.declared.RoundedBox.{RoundedBox}
 use Rattle.shape.specs.Checks.{boxCheckOf}
+use Rattle.boxes.specs.Checks.{mostBoxes}
+use Rattle.boxes.specs.Laws.{All}
 use Rattle.outline.specs.Outline.{allInRangeOf}
-use Rattle.box_fault.specs.Causes.{FirstAtFault, here, later, All, boxNumbers, ImproperSide, BoxFault, number, improper, Faultless, of-box}
-use Rattle.box_fault.specs.FirstFaulty.{belowZeroOf, causeOf, AsFirst, AsSecond, Listed, FirstFaultyBox}
+use Rattle.box_fault.specs.Causes.{FirstAtFault, here, later, boxNumbers, ImproperSide, BoxFault, number, improper, Faultless, of-box, FaultlessList, of-touch-list, of-list, of-safe}
+use Rattle.box_fault.specs.FirstFaulty.{belowZeroOf, causeOf, AsFirst, AsSecond, Listed, AsSafeArea, FirstFaultyBox}
 use Rattle.box_fault.proofs.Boxes.{box-refused, box-passes}
 use Rattle.box_fault.proofs.Laws.{refused-exactly-when}
 
@@ -65,17 +69,32 @@ second one g = let passes = box-passes one g in record {
   rect-fill = λ fringe b h. rw (passes, faulty b h);
 }
 
--- ---- in a touch list
+-- ---- in a list, and as the safe area
 
 behind : (before after : List RoundedBox) (b : RoundedBox) {f : Fault} → All Faultless before → BoxFault b f
     → FirstAtFault Faultless BoxFault (before ++ b ∷ after) f
 behind [] after b g h = here h
 behind (x ∷ xs) after b g h = later (g .0) (behind xs after b (g .1) h)
 
-listed : Listed
-listed before after b fringe p few g h =
-    let first = behind before after b g (caused b (allInRangeOf (boxNumbers b)) refl h) in
-    refused-exactly-when .touch (before ++ b ∷ after) fringe p .always (causeOf b) (of-box few first)
+listed : (before after : List RoundedBox) (b : RoundedBox) (fringe : Float)
+    → length (before ++ b ∷ after) ≤ mostBoxes → All Faultless before → belowZeroOf b ≡ true → Listed before after b fringe
+listed before after b fringe few g h =
+    let bs = before ++ b ∷ after in
+    let first = of-box few (behind before after b g (caused b (allInRangeOf (boxNumbers b)) refl h)) in
+    record {
+      touch = λ p. refused-exactly-when .touch bs fringe p .always (causeOf b) (of-touch-list first);
+      all-inside = λ safe. refused-exactly-when .all-inside bs safe fringe .always (causeOf b) (of-list first);
+    }
+
+safe-area : (bs : List RoundedBox) → FaultlessList bs → AsSafeArea bs
+safe-area bs g fringe b h =
+    refused-exactly-when .all-inside bs b fringe .always (causeOf b) (of-safe g (caused b (allInRangeOf (boxNumbers b)) refl h))
 
 pub first-faulty-box : FirstFaultyBox
-first-faulty-box = record { number = λ b. numbered (allInRangeOf (boxNumbers b)); first = first; second = second; listed = listed }
+first-faulty-box = record {
+  number = λ b. numbered (allInRangeOf (boxNumbers b));
+  first = first;
+  second = second;
+  listed = listed;
+  safe-area = safe-area;
+}

@@ -1,4 +1,4 @@
--- The calls that document 02's changes 1 and 5 add, `fit` and touch are refused exactly for their first cause
+-- The calls that document 02's changes 1, 5 and 10 add, `fit` and touch are refused exactly for their first cause
 -- (specs/Laws.antt). Assumes nothing.
 use mathlib.Core.Path.{_≡_}
 use Prim.Native.Nat.{ℕ}
@@ -33,9 +33,12 @@ use Rattle.fit.specs.Fit.{fitWithCutOf, fitOf}
 use Rattle.fit.specs.Calls.{outlineAnswer, cutAnswer}
 use Rattle.touch.specs.declared.TouchAnswer.the-variants as touched
 use Rattle.touch.proofs.Laws.{never-refused}
+use Rattle.inside.specs.declared.InsideAnswer.the-variants as inside
+use Rattle.inside.proofs.Laws as insides
 use Rattle.box_fault.specs.Laws.{OutlineTaken, RefusedExactlyWhen, NoBoxPastEight}
 use Rattle.fault.proofs.Decided.{told, good}
 use Rattle.box_fault.proofs.Boxes.{pair-refused, pair-passes, pair-decided, touch-refused, touch-passes, touch-decided}
+use Rattle.box_fault.proofs.Boxes.{inside-refused, inside-passes, inside-decided}
 use Rattle.box_fault.proofs.Outlines.{outline-refused, outline-passes, outline-decided, framed-refused, framed-passes, framed-decided}
 
 -- ---- an outcome is no refusal, and two refusals have two faults
@@ -80,6 +83,9 @@ cut-same f g e = cc
 touch-same : (f g : Fault) → touched.Refused f ≡ touched.Refused g → f ≡ g
 touch-same f g e = cc
 
+inside-same : (f g : Fault) → inside.Refused f ≡ inside.Refused g → f ≡ g
+inside-same f g e = cc
+
 -- ---- the calls
 
 -- an outline that is fitted, whatever answers it
@@ -110,6 +116,8 @@ refused-exactly-when = record {
       told box-same (box-done (uprightRectOf verbs positions t)) (framed-passes verbs positions t) (framed-refused verbs positions t) (framed-decided verbs positions t);
   touch = λ bs fringe p.
       told touch-same (never-refused bs fringe p) (touch-passes bs fringe p) (touch-refused bs fringe p) (touch-decided bs fringe p);
+  all-inside = λ bs safe fringe.
+      told inside-same (insides.never-refused bs safe fringe) (inside-passes bs safe fringe) (inside-refused bs safe fringe) (inside-decided bs safe fringe);
 }
 
 pub no-box-past-eight : NoBoxPastEight

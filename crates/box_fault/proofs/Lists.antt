@@ -7,7 +7,8 @@ use Rattle.fault.specs.declared.Fault.{Fault}
 use Rattle.fault.specs.declared.Check.{Check}
 use Rattle.fault.specs.declared.Check.the-variants as check
 use Rattle.fault.specs.Check.{_andThen_}
-use Rattle.box_fault.specs.Causes.{FirstAtFault, here, later, All}
+use Rattle.boxes.specs.Laws.{All}
+use Rattle.box_fault.specs.Causes.{FirstAtFault, here, later}
 use Rattle.fault.proofs.Decided.{Decided}
 
 pub record EachChecked {A : Type 0} (Good : A → Type 0) (AtFault : A → Fault → Type 0) (checkOf : A → Check) (checksOf : List A → Check) : Type 0 where

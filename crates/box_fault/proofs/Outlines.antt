@@ -16,7 +16,8 @@ use Rattle.geometry.specs.declared.Transform2D.{Transform2D}
 use Rattle.path.specs.Verbs.{unpackedOf}
 use Rattle.outline.specs.Outline.{verbCheckOf, verbsCheckOf, floatsNeededOf, allInRangeOf, outlineCheckOf}
 use Rattle.upright_rect.specs.Calls.{outlineFrameCheckOf}
-use Rattle.box_fault.specs.Causes.{InRange, frameNumbers, FirstAtFault, All, VerbFault, unknown, KnownVerb}
+use Rattle.boxes.specs.Laws.{All}
+use Rattle.box_fault.specs.Causes.{InRange, frameNumbers, FirstAtFault, VerbFault, unknown, KnownVerb}
 use Rattle.box_fault.specs.Causes.{OutlineFault, too-many, of-verb, mismatch, of-position, FaultlessOutline, OutlineFrameFault, of-outline, of-frame}
 use Rattle.fault.proofs.Decided.{Decided}
 use Rattle.box_fault.proofs.Lists.{EachChecked, all-pass, first-refuses, all-decided}

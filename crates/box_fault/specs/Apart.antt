@@ -13,6 +13,8 @@ use Rattle.covering.specs.declared.CoverageAnswer.the-variants as covered
 use Rattle.covering.specs.Calls.{coverageCall}
 use Rattle.touch.specs.declared.TouchAnswer.the-variants as touched
 use Rattle.touch.specs.Touch.{touchCall}
+use Rattle.inside.specs.declared.InsideAnswer.the-variants as inside
+use Rattle.inside.specs.Inside.{insideCall}
 use Rattle.scissor.specs.declared.ScissorAnswer.the-variants as scissor
 use Rattle.scissor.specs.Calls.{withScissorCall, trimmedScissorCall}
 
@@ -68,13 +70,15 @@ farApart = rect f½ f-1¼ overMost f1
 abbrev pub origin : Position
 origin = record { x = f0; y = f0 }
 
--- a window and a picture, the trim of the one by the other, and what later calls meet: as the only box, as the second
--- and at place 1 of a touch list
+-- a window and a picture, the trim of the one by the other, and what later calls meet: as the only box, as the second,
+-- at place 1 of a list and as the safe area
 pub record TrimMeets (picture window trim : RoundedBox) (f : Fault) : Type 0 where
   pub trimmed : trimmedScissorCall picture window f1 ≡ box.Box trim
   pub coverage : coverageCall trim f1 ≡ covered.Refused f
   pub with-scissor : withScissorCall window trim f1 ≡ scissor.Refused f
   pub touch : touchCall (window ∷ trim ∷ []) f1 origin ≡ touched.Refused f
+  pub all-inside : insideCall (window ∷ trim ∷ []) window f1 ≡ inside.Refused f
+  pub safe-area : insideCall (window ∷ []) trim f1 ≡ inside.Refused f
 
 -- 'any later call whose first fault is that box meets number 2, or 1 where a number in it is over 2^20'
 abbrev pub Apart : Type 0

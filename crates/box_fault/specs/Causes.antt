@@ -14,6 +14,7 @@ use Rattle.geometry.specs.declared.Position.{Position}
 use Rattle.geometry.specs.declared.Transform2D.{Transform2D}
 use Rattle.shape.specs.declared.RoundedBox.{RoundedBox}
 use Rattle.boxes.specs.Checks.{mostBoxes}
+use Rattle.boxes.specs.Laws.{All}
 use Rattle.outline.specs.Outline.{floatsNeededOf, allInRangeOf}
 
 -- ---- numbers
@@ -33,15 +34,11 @@ abbrev pub boxNumbers : RoundedBox → List Float
 boxNumbers b =
     b .frame .a ∷ b .frame .b ∷ b .frame .c ∷ b .frame .d ∷ b .frame .x ∷ b .frame .y ∷ b .ex ∷ b .ey ∷ b .rx ∷ b .ry ∷ []
 
--- ---- lists: the first element at fault, where all before it are good; and all good
+-- ---- lists: the first element at fault, where all before it are good
 
 pub data FirstAtFault {A : Type 0} (Good : A → Type 0) (AtFault : A → Fault → Type 0) : List A → Fault → Type 0 where
   here : {x : A} {xs : List A} {f : Fault} → AtFault x f → FirstAtFault Good AtFault (x ∷ xs) f
   later : {x : A} {xs : List A} {f : Fault} → Good x → FirstAtFault Good AtFault xs f → FirstAtFault Good AtFault (x ∷ xs) f
-
-abbrev pub All : {A : Type 0} → (A → Type 0) → List A → Type 0
-All Good [] = Unit
-All Good (x ∷ xs) = Good x × All Good xs
 
 -- ---- one box
 
@@ -68,16 +65,32 @@ pub data PairFault (one two : RoundedBox) (fringe : Float) : Fault → Type 0 wh
   of-second : {f : Fault} → Faultless one → BoxFault two f → PairFault one two fringe f
   of-fringe : Faultless one → Faultless two → OutOfRange (fringe ∷ []) → PairFault one two fringe NumberOutOfRange
 
--- ---- a touch list: '12, then per box 1, 2, first box before second, then 1 for a lone frame, fringe and point'. What
--- the boxes hold does not come into it: a box at fault refuses the list, whether or not a box before it is touched
+-- ---- a list of boxes: '12, then per box 1, 2, first box before second'. What is asked of the boxes does not come into
+-- it: a box at fault refuses the list, whatever is found before it
+
+pub data ListFault (bs : List RoundedBox) : Fault → Type 0 where
+  too-many-boxes : mostBoxes < length bs → ListFault bs TooManyBoxes
+  of-box : {f : Fault} → length bs ≤ mostBoxes → FirstAtFault Faultless BoxFault bs f → ListFault bs f
+
+pub record FaultlessList (bs : List RoundedBox) : Type 0 where
+  pub few : length bs ≤ mostBoxes
+  pub boxes : All Faultless bs
+
+-- ---- a touch list: 'then 1 for a lone frame, fringe and point'
 
 abbrev pub touchNumbers : Float → Position → List Float
 touchNumbers fringe p = fringe ∷ p .x ∷ p .y ∷ []
 
 pub data TouchFault (bs : List RoundedBox) (fringe : Float) (p : Position) : Fault → Type 0 where
-  too-many-boxes : mostBoxes < length bs → TouchFault bs fringe p TooManyBoxes
-  of-box : {f : Fault} → length bs ≤ mostBoxes → FirstAtFault Faultless BoxFault bs f → TouchFault bs fringe p f
-  of-touch : length bs ≤ mostBoxes → All Faultless bs → OutOfRange (touchNumbers fringe p) → TouchFault bs fringe p NumberOutOfRange
+  of-touch-list : {f : Fault} → ListFault bs f → TouchFault bs fringe p f
+  of-touch : FaultlessList bs → OutOfRange (touchNumbers fringe p) → TouchFault bs fringe p NumberOutOfRange
+
+-- ---- a list and a safe area. Document 02, change 10: 'the list's boxes are checked first, then the safe-area box, then
+-- the fringe'
+pub data InsideFault (bs : List RoundedBox) (safe : RoundedBox) (fringe : Float) : Fault → Type 0 where
+  of-list : {f : Fault} → ListFault bs f → InsideFault bs safe fringe f
+  of-safe : {f : Fault} → FaultlessList bs → BoxFault safe f → InsideFault bs safe fringe f
+  of-safe-fringe : FaultlessList bs → Faultless safe → OutOfRange (fringe ∷ []) → InsideFault bs safe fringe NumberOutOfRange
 
 -- ---- an outline: '11, then verbs in order (8 or 10 at the first verb at fault), 9, then 1 for positions'; document 02,
 -- change 5: 'Number 10 no longer occurs'

@@ -30,10 +30,13 @@ use Rattle.scissor.specs.Calls.{withScissorCall, trimmedScissorCall}
 use Rattle.fill.specs.declared.FillAnswer.the-variants as filled
 use Rattle.fill.specs.Calls.{rectFillCall}
 use Rattle.boxes.specs.Checks.{mostBoxes}
+use Rattle.boxes.specs.Laws.{All}
 use Rattle.touch.specs.declared.TouchAnswer.the-variants as touched
 use Rattle.touch.specs.Touch.{touchCall}
+use Rattle.inside.specs.declared.InsideAnswer.the-variants as inside
+use Rattle.inside.specs.Inside.{insideCall}
 use Rattle.outline.specs.Outline.{allInRangeOf}
-use Rattle.box_fault.specs.Causes.{All, boxNumbers, Faultless}
+use Rattle.box_fault.specs.Causes.{boxNumbers, Faultless, FaultlessList}
 
 -- 'a negative half extent'
 abbrev pub belowZeroOf : RoundedBox → Bool
@@ -70,14 +73,19 @@ pub record AsSecond (one : RoundedBox) : Type 0 where
   pub trimmed-scissor : (fringe : Float) → Meets box.Refused (λ b. trimmedScissorCall one b fringe)
   pub rect-fill : (fringe : Float) → Meets filled.Refused (λ b. rectFillCall one b fringe)
 
--- in a touch list, at any place: the list is short enough and the boxes before are without fault, touched or not
-abbrev pub Listed : Type 0
-Listed = (before after : List RoundedBox) (b : RoundedBox) (fringe : Float) (p : Position)
-    → length (before ++ b ∷ after) ≤ mostBoxes → All Faultless before → belowZeroOf b ≡ true
-    → touchCall (before ++ b ∷ after) fringe p ≡ touched.Refused (causeOf b)
+-- in a list, at any place: the list is short enough and the boxes before are without fault, touched or inside or not
+pub record Listed (before after : List RoundedBox) (b : RoundedBox) (fringe : Float) : Type 0 where
+  pub touch : (p : Position) → touchCall (before ++ b ∷ after) fringe p ≡ touched.Refused (causeOf b)
+  pub all-inside : (safe : RoundedBox) → insideCall (before ++ b ∷ after) safe fringe ≡ inside.Refused (causeOf b)
+
+-- as the safe area: the list is without fault
+abbrev pub AsSafeArea : List RoundedBox → Type 0
+AsSafeArea bs = (fringe : Float) → Meets inside.Refused (λ b. insideCall bs b fringe)
 
 pub record FirstFaultyBox : Type 0 where
   pub number : (b : RoundedBox) → numberOf (causeOf b) ≡ cond (allInRangeOf (boxNumbers b)) 2 1
   pub first : AsFirst
   pub second : (one : RoundedBox) → Faultless one → AsSecond one
-  pub listed : Listed
+  pub listed : (before after : List RoundedBox) (b : RoundedBox) (fringe : Float)
+      → length (before ++ b ∷ after) ≤ mostBoxes → All Faultless before → belowZeroOf b ≡ true → Listed before after b fringe
+  pub safe-area : (bs : List RoundedBox) → FaultlessList bs → AsSafeArea bs

@@ -1,4 +1,4 @@
--- The calls that document 02's changes 1 and 5 add, `fit` and touch are refused exactly for their first cause
+-- The calls that document 02's changes 1, 5 and 10 add, `fit` and touch are refused exactly for their first cause
 -- (Causes.antt), and the fits done exactly where nothing is at fault. `reach` and `holds` refuse nothing. Proved in
 -- proofs/Laws.antt.
 use mathlib.Core.Path.{_≡_}
@@ -22,7 +22,9 @@ use Rattle.fit.specs.declared.CutAnswer.the-variants as cut
 use Rattle.fit.specs.Calls.{fitCall, fitOutlineCall, fitWithCutCall}
 use Rattle.touch.specs.declared.TouchAnswer.the-variants as touched
 use Rattle.touch.specs.Touch.{touchCall}
-use Rattle.box_fault.specs.Causes.{InRange, frameNumbers, PairFault, TouchFault, OutlineFault, FaultlessOutline, OutlineFrameFault}
+use Rattle.inside.specs.declared.InsideAnswer.the-variants as inside
+use Rattle.inside.specs.Inside.{insideCall}
+use Rattle.box_fault.specs.Causes.{InRange, frameNumbers, PairFault, TouchFault, InsideFault, OutlineFault, FaultlessOutline, OutlineFrameFault}
 
 -- an answer is no refusal exactly when all is well
 pub record DoneExactlyWhen {A : Type 0} (refused : Fault → A) (answer : A) (Good : Type 0) : Type 0 where
@@ -48,6 +50,8 @@ pub record RefusedExactlyWhen : Type 0 where
       → ForItsFirstCause box.Refused (uprightRectCall verbs positions t) (OutlineFrameFault verbs positions t)
   pub touch : (bs : List RoundedBox) (fringe : Float) (p : Position)
       → ForItsFirstCause touched.Refused (touchCall bs fringe p) (TouchFault bs fringe p)
+  pub all-inside : (bs : List RoundedBox) (safe : RoundedBox) (fringe : Float)
+      → ForItsFirstCause inside.Refused (insideCall bs safe fringe) (InsideFault bs safe fringe)
 
 -- Document 02, change 1: 'A done call of `upright_rect` gives no box for a straight outline of more than 8 verbs'; nor for
 -- a curved one, as in the Rust

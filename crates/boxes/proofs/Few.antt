@@ -14,7 +14,7 @@ use Rattle.fault.specs.declared.Check.the-variants as check
 use Rattle.fault.specs.Check.{_andThen_}
 use Rattle.fault.proofs.Passing.{both-pass}
 use Rattle.shape.specs.declared.RoundedBox.{RoundedBox}
-use Rattle.shape.specs.Checks.{boxInRangeOf, improperOf, boxCheckOf}
+use Rattle.shape.specs.Checks.{boxInRangeOf, improperOf, boxCheckOf, numbersCheckOf}
 use Rattle.boxes.specs.Checks.{mostBoxes, boxesCheckOf, listCheckOf}
 use Rattle.boxes.specs.Laws.{TooManyExactlyWhen}
 
@@ -41,9 +41,13 @@ of-box-by true true e = let z : _≡_ {A = ℕ} 0 1 = cc in absurd (omega arith)
 of-box-by true false e = let z : _≡_ {A = ℕ} 0 1 = cc in absurd (omega arith)
 of-box-by false improper e = let z : _≡_ {A = ℕ} 0 1 = cc in absurd (omega arith)
 
-of-box : (b : RoundedBox) → Twelve (boxCheckOf b) → ⊥
+pub of-box : (b : RoundedBox) → Twelve (boxCheckOf b) → ⊥
 unfolding boxCheckOf
 of-box b = of-box-by (boxInRangeOf b) (improperOf b)
+
+pub of-numbers : (good : Bool) → Twelve (numbersCheckOf good) → ⊥
+of-numbers true e = let z : _≡_ {A = ℕ} 0 1 = cc in absurd (omega arith)
+of-numbers false e = let z : _≡_ {A = ℕ} 0 1 = cc in absurd (omega arith)
 
 of-boxes : (bs : List RoundedBox) → Twelve (boxesCheckOf bs) → ⊥
 of-boxes [] e = let z : _≡_ {A = ℕ} 0 1 = cc in absurd (omega arith)

@@ -49,6 +49,10 @@ val b = LL.val T.the-type T′.the-laws b
 abbrev pub IsBox : RoundedBox → Type 0
 IsBox b = Is T.the-row b (val b ∷ [])
 
+-- its machine value is its own
+pub own-box : (b : RoundedBox) (u : Val) → Is T.the-row b (u ∷ []) → IsBox b
+own-box b u is = subst (Is T.the-row b) (LL.tells T.the-type T′.the-laws b _ is) is
+
 -- an enum whose values own facts alone
 pub record Plain : Type 2 where
   pub type : Declared

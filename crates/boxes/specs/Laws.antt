@@ -20,6 +20,11 @@ pub record TooManyExactlyWhen : Type 0 where
   pub only : (bs : List RoundedBox) → listCheckOf bs ≡ check.Refused fault.TooManyBoxes → 4096 < length bs
   pub always : (bs : List RoundedBox) → 4096 < length bs → listCheckOf bs ≡ check.Refused fault.TooManyBoxes
 
+-- something holds of each element of a list
+abbrev pub All : {A : Type 0} → (A → Type 0) → List A → Type 0
+All P [] = Unit
+All P (x ∷ xs) = P x × All P xs
+
 -- at place k, counted from 0, there is a box of which the ask holds
 abbrev pub asksAt : List RoundedBox → Ask → ℕ → Bool
 asksAt [] q k = false

@@ -1,6 +1,6 @@
 -- What is found so far, as the walk over the boxes carries it: what it starts from, its test and its step.
 -- Definitions only.
-use Prim.Native.Nat.{ℕ}
+use Prim.Native.Nat.{ℕ, _<_}
 use mathlib.Core.Bool.{Bool, true, false, cond, _&&_}
 use lib.Dec.{ltb}
 use Rattle.fault.specs.declared.Check.{Check}
@@ -11,7 +11,7 @@ use Rattle.shape.specs.Checks.{boxCheckOf}
 use Rattle.boxes.specs.declared.Ask.{Ask}
 use Rattle.boxes.specs.declared.Found.{Found}
 use Rattle.boxes.specs.declared.Found.the-variants.{At, Nowhere, Refused}
-use Rattle.boxes.specs.Checks.{countCheckOf}
+use Rattle.boxes.specs.Checks.{mostBoxes, countCheckOf}
 use Rattle.boxes.specs.First.{asksOf}
 
 abbrev pub startOf : ℕ → Found
@@ -42,3 +42,9 @@ stepBy c holds r i = answerUnless Refused c (orElse r (cond holds (At i) Nowhere
 
 abbrev pub stepOf : Found → RoundedBox → ℕ → Ask → Found
 stepOf r b i q = stepBy (boxCheckOf b) (asksOf q b) r i
+
+-- a place that is found is below the limit: 16 bits hold it
+abbrev pub PlaceFits : Found → Type 0
+PlaceFits (At k) = k < mostBoxes
+PlaceFits Nowhere = Unit
+PlaceFits (Refused f) = Unit

@@ -1,5 +1,5 @@
 // A list of boxes: what is refused of it, and the first place where something is asked of its boxes.
-// Added to femtovg's calls by document 01.
+// Added to femtovg's calls by document 01, and by document 02, change 10.
 //
 // `first_place` is one thin walk over lent boxes. The borrow checker covers no function with a slice of
 // structs, so it is proved by hand. What the walk starts from, its test and its step are functions that
@@ -11,6 +11,7 @@ ghost use mathlib.Core.Path.{_≡_};
 ghost use Rattle.boxes.specs.First.{asksOf, firstPlaceOf};
 ghost use Rattle.boxes.specs.Lent.{frameAt, boxAt, boxesIn};
 ghost use Rattle.boxes.specs.Walk.{startOf, refusalOf, goesOn, stepOf};
+use clip_coverage::ClipCoverage;
 use fault::Check;
 use fault::Fault;
 use geometry::Position;
@@ -24,6 +25,8 @@ pub const MOST_BOXES: usize = 4096;
 pub enum Ask {
     // whether a point touches it: the fringe, and the point
     Touch(f32, f32, f32),
+    // whether a coverage does not contain it
+    Outside(ClipCoverage),
     // nothing: the list is checked alone
     Nothing,
 }
@@ -41,6 +44,7 @@ impl Ask {
     {
         match self {
             Ask::Touch(fringe, x, y) => covering::touches_unchecked(b, fringe, Position { x, y }),
+            Ask::Outside(k) => !k.contains_unchecked(b),
             Ask::Nothing => false,
         }
     }

@@ -23,10 +23,10 @@ use Rattle.examples.specs.Starred.{f4}
 use Rattle.examples.specs.Touches.{sliver, square, upright, uprightAt, point, Names, behind, SheetOfFrames}
 use Rattle.examples.proofs.Touched.{one-box}
 
-length-behind : (n : ℕ) (b last : RoundedBox) → length (behind n b last) ≡ n + 1
+pub length-behind : (n : ℕ) (b last : RoundedBox) → length (behind n b last) ≡ n + 1
 length-behind n b last = rw (length-append (replicate n b) (last ∷ []), length-replicate n b)
 
-few-behind : (n : ℕ) (b last : RoundedBox) → n < mostBoxes → length (behind n b last) ≤ mostBoxes
+pub few-behind : (n : ℕ) (b last : RoundedBox) → n < mostBoxes → length (behind n b last) ≤ mostBoxes
 few-behind n b last l = rw (length-behind n b last) (omega arith)
 
 too-long : (bs : List RoundedBox) {n : ℕ} → length bs ≡ n → 4096 < n → Names bs f1 (Refused TooManyBoxes)

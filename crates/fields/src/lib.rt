@@ -5,10 +5,10 @@ ghost use mathlib.Core.Path.{_≡_};
 pub const MOST_LINE: usize = 262144;
 // The most words of a drawing.
 pub const MOST_WORDS: usize = 16384;
-// The most boxes of a touch list's line.
+// The most boxes of a line's list.
 pub const MOST_BOXES: usize = 257;
-// The most floats: those of the most boxes, a fringe and a point.
-pub const MOST_FLOATS: usize = 2573;
+// The most floats: those of the most boxes, a safe area and a fringe.
+pub const MOST_FLOATS: usize = 2581;
 
 pub const MOST_VERBS: usize = 512;
 

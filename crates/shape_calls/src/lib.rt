@@ -1,4 +1,4 @@
-// The calls on outlines, boxes and coverages, by their names.
+// The calls on outlines, boxes, lists of boxes and coverages, by their names.
 use fields::Field;
 use fields::MOST_FLOATS;
 use fields::MOST_LINE;
@@ -135,7 +135,7 @@ fn of_floats(line: &[u8; MOST_LINE], call: FloatCall, at: usize) -> Problem {
     Problem::Nothing
 }
 
-// The calls that take an outline.
+// The calls that take an outline; those that take a list of boxes are crate list_calls's.
 fn answer_outline(line: &[u8; MOST_LINE], name: Field) -> Problem {
     if fields::is(line, name, b"fit") {
         return outline_calls::fit(line, name.end);
@@ -149,17 +149,11 @@ fn answer_outline(line: &[u8; MOST_LINE], name: Field) -> Problem {
     if fields::is(line, name, b"upright_rect") {
         return outline_calls::upright_rect(line, name.end);
     }
-    Problem::UnknownCall
+    list_calls::answer(line, name)
 }
 
 // Answers the call that has a name, with the fields behind it.
 pub fn answer(line: &[u8; MOST_LINE], name: Field) -> Problem {
-    if fields::is(line, name, b"touch") {
-        return box_calls::touch(line, name.end);
-    }
-    if fields::is(line, name, b"touchn") {
-        return box_calls::touchn(line, name.end);
-    }
     match call(line, name) {
         FloatCall::Unknown => answer_outline(line, name),
         known => of_floats(line, known, name.end),

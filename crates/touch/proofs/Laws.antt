@@ -17,7 +17,7 @@ use Rattle.fault.specs.Check.{answerUnless}
 use Rattle.fault.proofs.Passing.{both-pass}
 use Rattle.geometry.specs.declared.Position.{Position}
 use Rattle.shape.specs.declared.RoundedBox.{RoundedBox}
-use Rattle.shape.specs.Checks.{inRangeOf, bothInRangeOf, numbersCheckOf, fringeCheckOf, pointCheckOf}
+use Rattle.shape.specs.Checks.{inRangeOf, bothInRangeOf, fringeCheckOf, pointCheckOf}
 use Rattle.covering.specs.Touches.{touchesOf}
 use Rattle.covering.proofs.Laws.{still-touched}
 use Rattle.boxes.specs.declared.Ask.{Ask}
@@ -26,7 +26,7 @@ use Rattle.boxes.specs.declared.Found.the-variants as found
 use Rattle.boxes.specs.Checks.{mostBoxes, listCheckOf}
 use Rattle.boxes.specs.First.{firstFrom}
 use Rattle.boxes.specs.Laws.{asksAt}
-use Rattle.boxes.proofs.Few.{few, Twelve, of-first, too-many-exactly-when}
+use Rattle.boxes.proofs.Few.{few, Twelve, of-first, of-numbers, too-many-exactly-when}
 use Rattle.boxes.proofs.First.{lowest-place}
 use Rattle.touch.specs.declared.TouchAnswer.{TouchAnswer}
 use Rattle.touch.specs.declared.TouchAnswer.the-variants.{Frame, NoFrame, Refused}
@@ -169,10 +169,6 @@ pub refused-exactly-when : RefusedExactlyWhen
 refused-exactly-when = record { only = λ bs fringe p. refused bs fringe p (refusal bs fringe p); always = refuses }
 
 -- ---- the number of boxes
-
-of-numbers : (good : Bool) → Twelve (numbersCheckOf good) → ⊥
-of-numbers true e = let z : _≡_ {A = ℕ} 0 1 = cc in absurd (omega arith)
-of-numbers false e = let z : _≡_ {A = ℕ} 0 1 = cc in absurd (omega arith)
 
 of-list : (bs : List RoundedBox) (fringe : Float) (p : Position) → Twelve (touchCheckOf bs fringe p) → Twelve (listCheckOf bs)
 of-list bs fringe p e =

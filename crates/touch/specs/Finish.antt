@@ -1,6 +1,5 @@
 -- What `touch` asks of each box, and how what is found becomes the answer: what its functions promise to each other.
 -- Definitions only.
-use Prim.Native.Nat.{_<_}
 use lib.Ieee.{Float}
 use Rattle.fault.specs.declared.Check.{Check}
 use Rattle.fault.specs.Check.{answerUnless, _andThen_}
@@ -10,7 +9,6 @@ use Rattle.boxes.specs.declared.Ask.{Ask}
 use Rattle.boxes.specs.declared.Ask.the-variants as ask
 use Rattle.boxes.specs.declared.Found.{Found}
 use Rattle.boxes.specs.declared.Found.the-variants as found
-use Rattle.boxes.specs.Checks.{mostBoxes}
 use Rattle.boxes.specs.Walk.{refusalOf}
 use Rattle.touch.specs.declared.TouchAnswer.{TouchAnswer}
 use Rattle.touch.specs.declared.TouchAnswer.the-variants.{Frame, NoFrame, Refused}
@@ -21,12 +19,6 @@ touchAsk fringe x y = ask.Touch fringe x y
 -- fringe and point are refused after the boxes
 abbrev pub finishCheckOf : Found → Float → Position → Check
 finishCheckOf r fringe p = refusalOf r andThen fringeCheckOf fringe andThen pointCheckOf p
-
--- a place that is found is below the limit: 16 bits hold it
-abbrev pub PlaceFits : Found → Type 0
-PlaceFits (found.At k) = k < mostBoxes
-PlaceFits found.Nowhere = Unit
-PlaceFits (found.Refused f) = Unit
 
 abbrev pub answerOf : Found → TouchAnswer
 answerOf (found.At k) = Frame k

@@ -72,8 +72,8 @@ pub fn yes_or_no(holds: bool) {
     }
 }
 
-pub fn place(k: u16) {
-    write(b"frame ");
+pub fn place(name: &[u8], k: u16) {
+    write(name);
     decimal(k);
     write(b"\n");
 }
@@ -100,10 +100,10 @@ fn limit_message(problem: Problem) {
         Problem::BufferTooLong => write(b"a buffer has at most 65,536 bytes"),
         Problem::InkTooLong => write(b"an ink buffer has at most 8,200 numbers"),
         Problem::TooManyWords => write(b"a drawing takes at most 16,384 words"),
-        Problem::TooManyFloats => write(b"a line takes at most 2,573 floats"),
+        Problem::TooManyFloats => write(b"a line takes at most 2,581 floats"),
         Problem::TooManyVerbs => write(b"an outline's line takes at most 512 verbs"),
-        Problem::TooManyBoxes => write(b"a touch list's line takes at most 257 boxes"),
-        Problem::TooManyCopies => write(b"a touch list of copies has at most 4,097 boxes"),
+        Problem::TooManyBoxes => write(b"a list's line takes at most 257 boxes"),
+        Problem::TooManyCopies => write(b"a list of copies has at most 4,097 boxes"),
         Problem::ScratchTooLong => write(b"scratch has at most 40,000 floats and 5,000 counters"),
         _ => {}
     }

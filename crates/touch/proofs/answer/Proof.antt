@@ -4,7 +4,7 @@ use Prim.Native.Nat.{_<_}
 use native.Mathlib.Omega.{arith}
 use borrow.Author.Needs.{needs}
 use Rattle.boxes.specs.Checks.{mostBoxes}
-use Rattle.touch.specs.Finish.{PlaceFits}
+use Rattle.boxes.specs.Walk.{PlaceFits}
 use Rattle.touch.proofs.answer.Statement.{statement}
 use Rattle.touch.proofs.answer.Tie as tie
 

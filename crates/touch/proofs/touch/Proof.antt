@@ -107,7 +107,8 @@ use Rattle.boxes.proofs.Steps.{single, IsSingle, IsValue, asks, founds, qval, r
 use Rattle.touch.specs.declared.TouchAnswer.{TouchAnswer}
 use Rattle.touch.specs.Touch.{pointOf}
 use Rattle.touch.specs.Finish.{touchAsk, finishOf}
-use Rattle.touch.proofs.Finished.{place-fits, finishes}
+use Rattle.boxes.proofs.Finished.{place-fits}
+use Rattle.touch.proofs.Finished.{finishes}
 use Rattle.touch.proofs.Steps.{answers, tval, IsAnswer}
 use Rattle.shape.proofs.RoundedBox as T
 use Rattle.boxes.proofs.Ask as Q

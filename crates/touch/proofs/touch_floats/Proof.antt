@@ -2,7 +2,8 @@
 use borrow.Author.Needs.{needs}
 use Rattle.boxes.specs.Lent.{boxesIn}
 use Rattle.touch.specs.Touch.{pointOf}
-use Rattle.touch.proofs.Finished.{place-fits, finishes}
+use Rattle.boxes.proofs.Finished.{place-fits}
+use Rattle.touch.proofs.Finished.{finishes}
 use Rattle.touch.proofs.touch_floats.Statement.{statement}
 use Rattle.touch.proofs.touch_floats.Tie as tie
 

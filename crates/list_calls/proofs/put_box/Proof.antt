@@ -1,8 +1,8 @@
--- `box_calls::put_box` is safe and ends. The measure is what is left to put. Assumes nothing.
+-- `list_calls::put_box` is safe and ends. The measure is what is left to put. Assumes nothing.
 use Prim.Native.Nat.{_-_}
 use borrow.Author.Needs.{needs}
-use Rattle.box_calls.proofs.put_box.Statement.{statement}
-use Rattle.box_calls.proofs.put_box.Tie as tie
+use Rattle.list_calls.proofs.put_box.Statement.{statement}
+use Rattle.list_calls.proofs.put_box.Tie as tie
 
 abbrev Inv-loop : tie.InvT-loop
 Inv-loop sheet₀ from to b i₀ sheet i = Unit
