@@ -175,14 +175,17 @@ fn places(l: &mut List) {
     }
 }
 
-/// Numbers 12, 1 and 2, and their order: the list, the safe area, the fringe.
-fn refusals(l: &mut List) {
+fn numbers(l: &mut List) {
     l.line("# inside: numbers 1 and 2, at every place");
     let (one, safe) = (
         upright(0.5, 0.25, [2.0, 1.0], [0.5, 0.25]),
         upright(0.25, 0.5, [4.0, 3.0], [1.0, 0.5]),
     );
     l.at_every_place("inside 1", &[&one[..], &safe, &[1.0]].concat());
+}
+
+/// Numbers 12, 1 and 2, and their order: the list, the safe area, the fringe.
+fn refusals(l: &mut List) {
     l.line("# inside: numbers 12, 1 and 2, and their order");
     let [four, five] = [4.0, 5.0].map(square);
     let [improper, no_number] = at_fault();
@@ -271,7 +274,7 @@ fn random(l: &mut List) {
     }
 }
 
-fn bad_lines(l: &mut List) {
+fn bad_lists(l: &mut List) {
     l.line("# lines that are no call: lists in a safe area");
     let one = hex(&square(2.0));
     let short = &one[..one.len() - 9];
@@ -299,6 +302,11 @@ fn bad_lines(l: &mut List) {
     ] {
         l.line(&line);
     }
+}
+
+fn bad_copies(l: &mut List) {
+    let one = hex(&square(2.0));
+    let short = &one[..one.len() - 9];
     for line in [
         "insiden".to_string(),
         "insiden -1".to_string(),
@@ -320,6 +328,9 @@ fn bad_lines(l: &mut List) {
     ] {
         l.line(&line);
     }
+}
+
+fn most_floats(l: &mut List) {
     l.line("# the most floats of a line");
     for line in ["fit 0", "fit_outline 0", "fit_with_cut 0"] {
         l.line(&format!("{line} 2581"));
@@ -331,7 +342,17 @@ fn bad_lines(l: &mut List) {
 
 pub fn insides(l: &mut List) {
     for part in [
-        corners, edges, frames, places, refusals, sheets, random, bad_lines,
+        corners,
+        edges,
+        frames,
+        places,
+        numbers,
+        refusals,
+        sheets,
+        random,
+        bad_lists,
+        bad_copies,
+        most_floats,
     ] {
         part(l);
     }
