@@ -27,7 +27,7 @@ Contained area b = containsCall area b ≡ test.Done true
 abbrev pub NotContained : ClipCoverage → RoundedBox → Type 0
 NotContained area b = containsCall area b ≡ test.Done false
 
--- a box that no call refuses
+-- a box that is not refused: `Faultless` of box_fault/specs/Causes.antt says it without the check
 abbrev pub Unrefused : RoundedBox → Type 0
 Unrefused b = boxCheckOf b ≡ check.Pass
 
