@@ -2,6 +2,8 @@
 // hold any, and what a piece of an edge within the row adds. Crate row clips the pieces, crate sweep
 // makes bytes of the row. The public functions are for the crates above: none is a call of the
 // kiosk's.
+#![tactic(auto)]
+
 ghost use Rattle.std.specs.Prelude.{◌≡◌, map, ◌+◌, ◌-◌, ◌*◌, ◌/◌, ◌%◌, ◌≤◌, ◌<◌, min, length, Float};
 ghost use Rattle.float.specs.Ops.{◌⊕◌};
 ghost use Rattle.accumulation.specs.Area.{add_of, evenly_of, single_of, between_of, across_of};

@@ -1,6 +1,8 @@
 // The active edges of a row: those kept from the row above and those that join in it. Their pieces
 // are added to the row's cells. They stand in lent scratch, laid out as the crate `edge` shows. The
 // public functions are for the crates above: none is a call of the kiosk's.
+#![tactic(auto)]
+
 ghost use Rattle.std.specs.Prelude.{◌≡◌, ◌+◌, ◌*◌, ◌≤◌, length, set};
 ghost use Rattle.accumulation.specs.Marks.{Ready};
 ghost use Rattle.active_edges.specs.Active.{piece_of};

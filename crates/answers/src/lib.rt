@@ -1,4 +1,6 @@
 // The engine's answers, written one a line.
+#![tactic(auto)]
+
 use cells::{Corner, Size};
 use clip_coverage::{ClipCoverage, DistanceAnswer};
 use covering::CoverageAnswer;

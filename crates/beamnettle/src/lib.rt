@@ -1,5 +1,7 @@
 // The kiosk's C library: the documents' calls over numbers and lent slices. include/beamnettle.h says
 // what each does in words; each contract gives its number and all that is lent afterwards outright.
+#![tactic(auto)]
+
 ghost use Rattle.std.specs.Prelude.{◌≡◌, length};
 ghost use Rattle.ink.specs.Lent.{lent};
 ghost use Rattle.mask.specs.Calls.{outcome_number, draw_answer, lay_answer, lay_placed_answer};

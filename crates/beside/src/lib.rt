@@ -3,6 +3,8 @@
 //
 // A call refuses as document 01 says and else answers what the Rust does. What it rests on ends in
 // `_unchecked` and takes any floats. Each contract gives the answer outright, by a definition of specs/.
+#![tactic(auto)]
+
 ghost use Rattle.std.specs.Prelude.{◌≡◌};
 ghost use Rattle.beside.specs.Alongside.{scale_of, aligned_of, straight_of, crossed_of, straight_by, crossed_by, alongside_of, parallel_of};
 ghost use Rattle.beside.specs.Calls.{pair_check_of, pair_fringe_check_of, parallel_call};
@@ -12,7 +14,7 @@ use geometry::Transform2D;
 use shape::{RoundedBox, TestAnswer};
 
 // A box in another's frame: its centre, and its half sides and radii along the axes.
-#[derive(Drop)]
+#[derive(Clone, Copy)]
 pub struct Placed {
     pub x: f32,
     pub y: f32,
@@ -23,7 +25,7 @@ pub struct Placed {
 }
 
 // The Rust's Option of `alongside`.
-#[derive(Drop)]
+#[derive(Clone, Copy)]
 pub enum MaybePlaced {
     Placed(Placed),
     NotParallel,

@@ -1,5 +1,7 @@
 // What an answer hands over at the C boundary: its number, and its floats, written to what is lent.
 // No function here is a call of the kiosk's: crate beamnettle exports those.
+#![tactic(auto)]
+
 ghost use Rattle.std.specs.Prelude.{◌≡◌, ◌≤◌, length};
 ghost use Rattle.mask.specs.Calls.{outcome_number};
 ghost use Rattle.boundary.specs.Answers.{after, box_handed, coverage_handed, bounds_handed, distance_handed};

@@ -1,4 +1,6 @@
 // The calls on boxes, from their floats.
+#![tactic(auto)]
+
 use fields::MOST_FLOATS;
 
 pub fn transformed(f: &[f32; MOST_FLOATS]) {

@@ -1,6 +1,8 @@
 // The box calls on lent slices: numbers in, a number back, an answer's floats written to what is lent for
 // them. Crate beamnettle exports each under its name; include/beamnettle.h says what each does in words.
 // Each contract gives the number and all that is lent afterwards outright.
+#![tactic(auto)]
+
 ghost use Rattle.std.specs.Prelude.{◌≡◌};
 ghost use Rattle.boundary.specs.Answers.{after, box_handed, coverage_handed, bounds_handed, distance_handed, test_number};
 ghost use Rattle.box_exports.specs.Calls.{transformed_lent, intersection_lent, rect_intersection_lent, coverage_lent};

@@ -5,6 +5,8 @@
 // structs, so it is proved by hand. What the walk starts from, its test and its step are functions that
 // take what they need by value, and those are covered. `first_place_in` is the same walk over lent
 // floats, ten for each box: its callers hold no list of boxes.
+#![tactic(auto)]
+
 ghost use Rattle.std.specs.Prelude.{◌+◌, ◌*◌, ◌≤◌, length, ◌≡◌};
 ghost use Rattle.boxes.specs.First.{asks_of, first_place_of};
 ghost use Rattle.boxes.specs.Lent.{frame_at, box_at, boxes_in};
@@ -19,7 +21,7 @@ use shape::RoundedBox;
 pub const MOST_BOXES: usize = 4096;
 
 // What is asked of each box of a list.
-#[derive(Drop)]
+#[derive(Clone, Copy)]
 pub enum Ask {
     // whether a point touches it: the fringe, and the point
     Touch(f32, f32, f32),
@@ -29,7 +31,7 @@ pub enum Ask {
     Nothing,
 }
 
-#[derive(Drop)]
+#[derive(Clone, Copy)]
 pub enum Found {
     // the lowest place where the ask holds, counted from 0
     At(usize),

@@ -1,4 +1,6 @@
 // The buffers of the call runner, for masks and for their ink: filled, shown, looked at.
+#![tactic(auto)]
+
 use fields::{Field, MOST_LINE, Problem};
 
 pub const MOST_BYTES: usize = 65536;
@@ -6,14 +8,14 @@ pub const MOST_BYTES: usize = 65536;
 pub const MOST_INK: usize = 8200;
 
 // The lengths of a mask buffer and of its ink buffer.
-#[derive(Drop)]
+#[derive(Clone, Copy)]
 pub struct Lengths {
     pub mask: usize,
     pub ink: usize,
 }
 
 // The buffers' lengths after a call, and what is wrong with the call's line.
-#[derive(Drop)]
+#[derive(Clone, Copy)]
 pub struct AfterCall {
     pub lengths: Lengths,
     pub problem: Problem,
@@ -30,7 +32,7 @@ fn set(mask: usize, ink: usize) -> AfterCall {
 }
 
 // How many bytes are read from a line, and what is wrong with it.
-#[derive(Drop)]
+#[derive(Clone, Copy)]
 pub struct ReadBytes {
     pub count: usize,
     pub problem: Problem,

@@ -1,4 +1,6 @@
 // Reads a list of calls, one a line, and writes an answer a line: README.md, 'A list of calls'.
+#![tactic(auto)]
+
 use buffers::{Lengths, MOST_BYTES, MOST_INK};
 use fields::{MOST_LINE, Problem};
 use input::{CHUNK, Input, Reading};
@@ -8,7 +10,7 @@ use line_calls::Held;
 const FIRST_INK: usize = 8192;
 
 // What is kept from line to line, beside what the buffers hold.
-#[derive(Drop)]
+#[derive(Clone, Copy)]
 struct State {
     at: usize,
     have: usize,

@@ -1,4 +1,6 @@
 // A mask's cells: its size, its corner on the sheet, and lent buffers cleared and written.
+#![tactic(auto)]
+
 ghost use Rattle.std.specs.Prelude.{◌≡◌, ◌+◌, ◌≤◌, length, replicate};
 ghost use Rattle.float.specs.Ops.{f0};
 ghost use Rattle.cells.specs.Cells.{too_large};
@@ -6,7 +8,7 @@ ghost use Rattle.cells.specs.Corner.{corner_number_out, corner_out};
 ghost use Rattle.cells.specs.Over.{over};
 
 // A mask's size in cells. Its bytes are lent beside it, one a cell, rows first.
-#[derive(Drop)]
+#[derive(Clone, Copy)]
 pub struct Size {
     pub width: usize,
     pub height: usize,
@@ -24,7 +26,7 @@ impl Size {
 }
 
 // Where a mask's corner lies on the sheet, in cells: its cell (column, row) lies at (x + column, y + row).
-#[derive(Drop)]
+#[derive(Clone, Copy)]
 pub struct Corner {
     pub x: i32,
     pub y: i32,
@@ -48,7 +50,7 @@ impl Corner {
 }
 
 // A mask's record: its size, and beside it its corner.
-#[derive(Drop)]
+#[derive(Clone, Copy)]
 pub struct MaskRecord {
     pub size: Size,
     pub corner: Corner,

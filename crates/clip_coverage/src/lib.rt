@@ -3,6 +3,8 @@
 //
 // A call refuses as document 01 says and else answers what the Rust does. What it rests on ends in
 // `_unchecked` and takes any floats. Each contract gives the answer outright, by a definition of specs/.
+#![tactic(auto)]
+
 ghost use Rattle.std.specs.Prelude.{◌≡◌};
 ghost use Rattle.clip_coverage.specs.Distance.{framed_of, side_of, corner_of, round_of, off_corner_of, lean_of, corner_distance_of};
 ghost use Rattle.clip_coverage.specs.Distance.{edge_distance_of, locate_of, distance_of, holds_point_of, contains_of};
@@ -14,7 +16,7 @@ use shape::{RoundedBox, TestAnswer};
 
 // A box as a draw takes it: the map from device pixels to the box's frame, scaled so that one unit
 // is one fringe width across each side, and the box in those units.
-#[derive(Drop)]
+#[derive(Clone, Copy)]
 pub struct ClipCoverage {
     // rows of the linear part
     pub la: f32,
@@ -35,14 +37,14 @@ pub struct ClipCoverage {
 }
 
 // The Rust's (f32, bool) of `locate`.
-#[derive(Drop)]
+#[derive(Clone, Copy)]
 pub struct Located {
     pub distance: f32,
     // whether the point lies off a round corner, the ends of the arc with it
     pub round: bool,
 }
 
-#[derive(Drop)]
+#[derive(Clone, Copy)]
 pub enum DistanceAnswer {
     Distance(f32),
     Refused(Fault),

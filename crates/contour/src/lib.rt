@@ -1,4 +1,6 @@
 // The contours of a group, read from a word list that was checked: their edges, stored in lent floats.
+#![tactic(auto)]
+
 ghost use Rattle.std.specs.Prelude.{◌≡◌, false, ◌+◌, ◌*◌, ◌≤◌, ◌<◌, ℤ, pos, length, get_or, drop};
 ghost use Rattle.word_list.specs.Words.{beyond, read_points, read_contours, points_of};
 ghost use Rattle.words.specs.Scan.{Fine, points_from, contours_from, end_of};
@@ -9,7 +11,7 @@ ghost use Rattle.contour.specs.Contours.{coordinate_of, contour_of, edges_of};
 use word_reader::{Counted, Word};
 
 // A point of a contour, in cells.
-#[derive(Drop)]
+#[derive(Clone, Copy)]
 struct Point {
     x: f32,
     y: f32,
@@ -82,7 +84,7 @@ fn contour(
 }
 
 // Where reading goes on, and how many edges are stored.
-#[derive(Drop)]
+#[derive(Clone, Copy)]
 pub struct Progress {
     pub at: usize,
     pub count: usize,

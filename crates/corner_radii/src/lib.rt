@@ -1,5 +1,7 @@
 // The box around an outline, and which of its corners are round and by how much: `rounded` of femtovg's
 // clip/shape.rs up to its radii. Each contract gives the result outright, by a definition of specs/.
+#![tactic(auto)]
+
 ghost use Rattle.std.specs.Prelude.{◌≡◌, ◌<◌, ◌≤◌};
 ghost use Rattle.outline.specs.Outline.{most_points};
 ghost use Rattle.outline.specs.Kept.{points_in};
@@ -18,7 +20,7 @@ pub const FIT_TOLERANCE: f32 = 0.005;
 // ---- the box around an outline
 
 // Its centre and half extents, and how far off it a point may be.
-#[derive(Drop)]
+#[derive(Clone, Copy)]
 pub struct Around {
     pub cx: f32,
     pub cy: f32,
@@ -72,7 +74,7 @@ impl Around {
 // ---- a corner's radii
 
 // An axis at a corner, which lies on the half of `sign`.
-#[derive(Drop)]
+#[derive(Clone, Copy)]
 pub struct CornerAxis {
     pub centre: f32,
     pub half: f32,
@@ -80,13 +82,13 @@ pub struct CornerAxis {
 }
 
 // How far a straight side reaches from the middle of it.
-#[derive(Drop)]
+#[derive(Clone, Copy)]
 pub enum Far {
     Reaches(f32),
     NoSide,
 }
 
-#[derive(Drop)]
+#[derive(Clone, Copy)]
 pub struct Radii {
     pub x: f32,
     pub y: f32,
@@ -208,7 +210,7 @@ fn corner(
 // ---- which corners
 
 // The same corners all round; the two of a side square and the other two the same; or any other mix.
-#[derive(Drop)]
+#[derive(Clone, Copy)]
 pub enum CornerMix {
     Alike(Radii),
     CutAt(usize, Radii),

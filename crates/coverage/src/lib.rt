@@ -1,4 +1,6 @@
 // Groups of contours folded into coverage, row by row.
+#![tactic(auto)]
+
 ghost use Rattle.std.specs.Prelude.{◌≡◌, ◌≤◌, length};
 ghost use Rattle.word_list.specs.Words.{Group};
 ghost use Rattle.cells.specs.Cells.{SizeAllowed};
@@ -35,7 +37,7 @@ pub fn counters_needed(size: Size) -> usize
 // ---- a group
 
 // What is kept of a row that was drawn: how many edges reach below it, and the stretch of its ink.
-#[derive(Drop)]
+#[derive(Clone, Copy)]
 struct RowDone {
     below: usize,
     ink: Stretch,

@@ -3,6 +3,8 @@
 //
 // A call refuses as document 01 says and else answers what the Rust does. What it rests on ends in
 // `_unchecked` and takes any floats. Each contract gives the answer outright, by a definition of specs/.
+#![tactic(auto)]
+
 ghost use Rattle.std.specs.Prelude.{◌≡◌};
 ghost use Rattle.covering.specs.Coverage.{invertible_of, uncovered_of, per_fringe_of, thin_of, tight_of, kept_radii_of, coverage_of};
 ghost use Rattle.covering.specs.Touches.{touches_of};
@@ -14,13 +16,13 @@ use geometry::{Position, Transform2D};
 use shape::{RoundedBox, TestAnswer};
 
 // The Rust's Option<ClipCoverage>.
-#[derive(Drop)]
+#[derive(Clone, Copy)]
 pub enum MaybeCoverage {
     Coverage(ClipCoverage),
     NoCoverage,
 }
 
-#[derive(Drop)]
+#[derive(Clone, Copy)]
 pub enum CoverageAnswer {
     Coverage(ClipCoverage),
     NoCoverage,

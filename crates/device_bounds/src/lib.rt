@@ -3,6 +3,8 @@
 //
 // Neither call refuses anything: a coverage and bounds may hold any floats. Each contract gives the
 // answer outright, by a definition of specs/.
+#![tactic(auto)]
+
 ghost use Rattle.std.specs.Prelude.{◌≡◌};
 ghost use Rattle.device_bounds.specs.Reach.{linear_determinant_of, half_of, centre_of, around_of, bounds_of, reach_of};
 ghost use Rattle.device_bounds.specs.Holds.{outside_of, square_corners_of, middle_of, half_sides_of, axis_holds_of, sides_hold_of, point_holds_of, corners_hold_of, holds_of};
@@ -11,7 +13,7 @@ use clip_coverage::ClipCoverage;
 use geometry::{Bounds, Position};
 
 // The Rust's Option<Bounds>: none where the coverage is one everywhere.
-#[derive(Drop)]
+#[derive(Clone, Copy)]
 pub enum MaybeBounds {
     Bounds(Bounds),
     Everywhere,

@@ -1,4 +1,6 @@
 // Drawing, from a line to its answer.
+#![tactic(auto)]
+
 use buffers::{Lengths, MOST_BYTES, MOST_INK};
 use cells::MaskRecord;
 use fields::{MOST_LINE, MOST_WORDS, Problem};
@@ -11,7 +13,7 @@ const MOST_SCRATCH_FLOATS: usize = 40000;
 const MOST_SCRATCH_COUNTERS: usize = 5000;
 
 // How much is lent of a mask's bytes, of its ink, of the words and of scratch.
-#[derive(Drop)]
+#[derive(Clone, Copy)]
 struct Lent {
     cells: usize,
     ink: usize,

@@ -8,6 +8,8 @@
 //
 // A row's head is one more than the place of the first edge that starts in it, an edge's next one
 // more than that of the next edge of the same row, and 0 ends the list.
+#![tactic(auto)]
+
 ghost use Rattle.std.specs.Prelude.{◌≡◌, ℕ, ◌+◌, ◌*◌, ◌≤◌, ◌<◌, length, get_or, set};
 ghost use Rattle.whole.specs.Whole.{of_whole};
 ghost use Rattle.edge.specs.Edges.{sloped_of, edge_between, start_row, at_of};
@@ -16,7 +18,7 @@ ghost use Rattle.edge.specs.Table.{nth, Placed, InTable, NextsChanged};
 
 // An edge from its top to its bottom: x and y at the top, the y at its bottom, the change in x for
 // each unit of y, and 1 if it was drawn downwards, -1 if upwards.
-#[derive(Drop)]
+#[derive(Clone, Copy)]
 pub struct Edge {
     pub x: f32,
     pub y: f32,
@@ -35,7 +37,7 @@ impl Edge {
 
 // The row's width, where the edges' nexts and the active edges start in the floats, and how many
 // edges there are. The edges start where the row's cells end.
-#[derive(Drop)]
+#[derive(Clone, Copy)]
 pub struct Layout {
     pub width: usize,
     pub nexts: usize,

@@ -1,12 +1,14 @@
 // Why a call is turned away: the causes that documents 01 and 02 number, and what a look at a call's
 // arguments says.
+#![tactic(auto)]
+
 ghost use Rattle.std.specs.Prelude.{◌≡◌};
 ghost use Rattle.fault.specs.Number.{number_of};
 ghost use Rattle.fault.specs.Check.{unless_of, ◌and_then◌};
 
 // One variant for each cause, in its document's words: document 01's table to 12, document 02 from 13 on.
 // 10 was a curve verb given to the fitter, and is given to nothing since change 5.
-#[derive(Drop)]
+#[derive(Clone, Copy)]
 pub enum Fault {
     // 1: a box, frame, point, fringe or position number is not finite, or its size is over 2^20
     NumberOutOfRange,
@@ -67,7 +69,7 @@ impl Fault {
 }
 
 // What a look at a call's arguments says.
-#[derive(Drop)]
+#[derive(Clone, Copy)]
 pub enum Check {
     Pass,
     Refused(Fault),

@@ -1,4 +1,6 @@
 // A line and its fields, which stand between blanks.
+#![tactic(auto)]
+
 ghost use Rattle.std.specs.Prelude.{◌≡◌};
 
 // The longest line, with the byte that ends it.
@@ -13,7 +15,7 @@ pub const MOST_FLOATS: usize = 2581;
 pub const MOST_VERBS: usize = 512;
 
 // What is wrong with a line.
-#[derive(Drop)]
+#[derive(Clone, Copy)]
 pub enum Problem {
     Nothing,
     LineTooLong,
@@ -37,7 +39,7 @@ pub enum Problem {
 }
 
 // Where a field stands: one without bytes says that the line has no more.
-#[derive(Drop)]
+#[derive(Clone, Copy)]
 pub struct Field {
     pub start: usize,
     pub end: usize,
@@ -199,7 +201,7 @@ pub fn is_hex(line: &[u8; MOST_LINE], f: Field) -> bool {
 
 // ---- fields by kind
 
-#[derive(Drop)]
+#[derive(Clone, Copy)]
 pub enum NaturalField {
     Value(usize),
     Bad,
@@ -215,7 +217,7 @@ pub fn natural(line: &[u8; MOST_LINE], f: Field) -> NaturalField {
 }
 
 // A number that is not negative, whether there is one, and the place behind it.
-#[derive(Drop)]
+#[derive(Clone, Copy)]
 pub struct Length {
     pub value: usize,
     pub good: bool,
@@ -239,7 +241,7 @@ pub fn size_at(line: &[u8; MOST_LINE], from: usize) -> Length {
     }
 }
 
-#[derive(Drop)]
+#[derive(Clone, Copy)]
 pub enum WordField {
     Value(i32),
     Bad,
@@ -271,7 +273,7 @@ fn word(line: &[u8; MOST_LINE], f: Field) -> WordField {
 }
 
 // A word, whether there is one, and the place behind it.
-#[derive(Drop)]
+#[derive(Clone, Copy)]
 pub struct Signed {
     pub value: i32,
     pub good: bool,
@@ -295,7 +297,7 @@ pub fn word_at(line: &[u8; MOST_LINE], from: usize) -> Signed {
     }
 }
 
-#[derive(Drop)]
+#[derive(Clone, Copy)]
 pub enum FloatField {
     Value(f32),
     Bad,
@@ -329,7 +331,7 @@ fn float_field(line: &[u8; MOST_LINE], f: Field) -> FloatField {
 
 // How far a list is read: where its next field is looked for, how many are in, whether more are
 // to come, and what is wrong.
-#[derive(Drop)]
+#[derive(Clone, Copy)]
 pub struct List {
     pub at: usize,
     pub count: usize,

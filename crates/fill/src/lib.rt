@@ -3,6 +3,8 @@
 //
 // A call refuses as document 01 says and else answers what the Rust does. What it rests on ends in
 // `_unchecked` and takes any floats. Each contract gives the answer outright, by a definition of specs/.
+#![tactic(auto)]
+
 ghost use Rattle.std.specs.Prelude.{◌≡◌};
 ghost use Rattle.fill.specs.Fill.{none_of, both_none_of, upright_of, shared_of, covers_of, grown_of, covered_by_of, covered_of, rect_fill_of};
 ghost use Rattle.fill.specs.Calls.{fill_answer, rect_fill_call};
@@ -15,7 +17,7 @@ use scissor::{Axis, MaybeBoth};
 use shape::RoundedBox;
 
 // What an upright rect filled under a clip is drawn as in its place.
-#[derive(Drop)]
+#[derive(Clone, Copy)]
 pub enum RectFill {
     // the rect that the fill shares with a rect clip, antialiased by its own fringe, with no clip
     Shared(RoundedBox),
@@ -30,13 +32,13 @@ impl RectFill {
 }
 
 // The Rust's Option<RectFill>.
-#[derive(Drop)]
+#[derive(Clone, Copy)]
 pub enum MaybeFill {
     Fill(RectFill),
     NoBox,
 }
 
-#[derive(Drop)]
+#[derive(Clone, Copy)]
 pub enum FillAnswer {
     Fill(RectFill),
     NoBox,

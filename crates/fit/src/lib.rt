@@ -3,6 +3,8 @@
 //
 // A call of the same name as the Rust's refuses as documents 01 and 02 say and else answers what the
 // Rust does, by a definition of specs/.
+#![tactic(auto)]
+
 ghost use Rattle.std.specs.Prelude.{◌≡◌, ◌<◌, ◌≤◌, ◌+◌, length};
 ghost use Rattle.outline.specs.Outline.{floats_needed_of, most_verbs, most_points};
 ghost use Rattle.outline.specs.Contour.{Contour, reached, contour_of};
@@ -53,7 +55,7 @@ fn size(start: Position, xs: &[f32; MOST_POINTS], ys: &[f32; MOST_POINTS], n: us
 }
 
 // Four corners in order around a parallelogram.
-#[derive(Drop)]
+#[derive(Clone, Copy)]
 pub struct Corners {
     pub p0: Position,
     pub p1: Position,
@@ -313,7 +315,7 @@ fn fit_with_cut_unchecked(verbs: &[u8], positions: &[f32]) -> Fitted
 
 // ---- the calls
 
-#[derive(Drop)]
+#[derive(Clone, Copy)]
 pub enum OutlineAnswer {
     // a box and its strays
     Outline(RoundedBox, f32),
@@ -321,7 +323,7 @@ pub enum OutlineAnswer {
     Refused(Fault),
 }
 
-#[derive(Drop)]
+#[derive(Clone, Copy)]
 pub enum CutAnswer {
     Whole(RoundedBox, f32),
     // a box, its strays, and the box that cuts it

@@ -1,5 +1,7 @@
 // Float helpers that the language lacks. Each contract gives the result outright, for every
 // argument, as a definition of specs/ over the logic's account of IEEE 754 (lib.Ieee).
+#![tactic(auto)]
+
 ghost use Rattle.std.specs.Prelude.{◌≡◌, ◌^◌, ◌<◌, ◌≤◌, min as smallerOf, false, T, ◌⊎◌};
 ghost use Rattle.std.specs.Float.{inf, binary32, binary64};
 ghost use Rattle.std.specs.Float.Ieee.{units};
@@ -94,7 +96,7 @@ pub fn widen(x: f32) -> f64
 // ---- a float taken apart and put together
 
 // A finite float: digits * 2 ^ exponent of its format's smallest values.
-#[derive(Drop)]
+#[derive(Clone, Copy)]
 pub struct Parts {
     pub negative: bool,
     pub digits: u64,

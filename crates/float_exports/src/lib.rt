@@ -1,5 +1,7 @@
 // The functions of float, narrowing, whole and roots under C names, for a program outside to call.
 // Each promises what the function that it calls promises.
+#![tactic(auto)]
+
 ghost use Rattle.std.specs.Prelude.{◌≡◌, ◌^◌, min as smallerOf};
 ghost use Rattle.std.specs.Float.{binary32, binary64};
 ghost use Rattle.std.specs.Float.Ieee.Scale.{finite};

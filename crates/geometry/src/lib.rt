@@ -1,11 +1,13 @@
 // Frames and bounds: the parts of femtovg's geometry.rs that the boxes use. Every function takes
 // any floats, and its contract gives the result outright, by a definition of specs/Frame.antt.
+#![tactic(auto)]
+
 ghost use Rattle.std.specs.Prelude.{◌≡◌, [], ◌∷◌};
 ghost use Rattle.geometry.specs.Frame.{identity_frame, translation_of, product_of, quotient_of, collapsed_of};
 ghost use Rattle.geometry.specs.Frame.{inverse_of, transform_point_of, no_bounds, with_point_of, from_points_of};
 
 // A point. The Rust's `transform_point` answers a pair.
-#[derive(Drop)]
+#[derive(Clone, Copy)]
 pub struct Position {
     pub x: f32,
     pub y: f32,
@@ -15,7 +17,7 @@ pub struct Position {
 // The fields' order is that of the first six of `struct beamnettle_box` in include/beamnettle.h. No
 // contract pins it: compare/run tests it with a C program (compare/header).
 #[repr(C)]
-#[derive(Drop)]
+#[derive(Clone, Copy)]
 pub struct Transform2D {
     pub a: f32,
     pub b: f32,
@@ -126,7 +128,7 @@ impl Transform2D {
     }
 }
 
-#[derive(Drop)]
+#[derive(Clone, Copy)]
 pub struct Bounds {
     pub minx: f32,
     pub miny: f32,

@@ -1,5 +1,7 @@
 // The groups of a list without a fault, added one after another to a mask, over lent scratch. No function here
 // is a call of the kiosk's: crate mask has those.
+#![tactic(auto)]
+
 ghost use Rattle.std.specs.Prelude.{◌≡◌, length, drop, replicate};
 ghost use Rattle.float.specs.Ops.{f0};
 ghost use Rattle.ink.specs.Ink.{ink_of_rows};

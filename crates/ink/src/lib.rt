@@ -1,4 +1,6 @@
 // Which columns of a mask's rows have ink, for a print head that skips blank stretches.
+#![tactic(auto)]
+
 ghost use Rattle.std.specs.Prelude.{◌≡◌, true, cond, ◌⊎◌, List, ℕ, ◌-◌, ◌≤◌, ◌<◌, eqb, length, get_or, replicate};
 ghost use Rattle.cells.specs.Cells.{SizeAllowed};
 ghost use Rattle.ink.specs.Ink.{ink_of, ink_after};
@@ -9,7 +11,7 @@ ghost use Rattle.ink.specs.Grown.{Grown};
 use cells::Size;
 
 // The first column with ink and the column after the last, or 0 and 0 for a blank row.
-#[derive(Drop)]
+#[derive(Clone, Copy)]
 pub struct Stretch {
     pub first: u16,
     pub end: u16,

@@ -1,11 +1,13 @@
 // Standard input, read line by line.
+#![tactic(auto)]
+
 use fields::MOST_LINE;
 use libc::STDIN_FILENO;
 
 pub const CHUNK: usize = 65536;
 
 // What is read and not yet used: the bytes of a chunk from `at` up to `have`.
-#[derive(Drop)]
+#[derive(Clone, Copy)]
 pub struct Input {
     pub at: usize,
     pub have: usize,
@@ -13,7 +15,7 @@ pub struct Input {
 
 // How far a line is read: the input behind it, its length so far, whether it is too long, whether
 // more is to come, and whether there is a line at all.
-#[derive(Drop)]
+#[derive(Clone, Copy)]
 pub struct Reading {
     pub at: usize,
     pub have: usize,

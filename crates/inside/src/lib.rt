@@ -4,6 +4,8 @@
 // `all_inside` is what is asked of each box, the walk over the lent boxes (crate boxes), and an end, as
 // `touch::touch` is, and like it is proved by hand. `inside_floats` is the same over lent floats, and is
 // covered.
+#![tactic(auto)]
+
 ghost use Rattle.std.specs.Prelude.{◌*◌, ◌≤◌, length, ◌≡◌};
 ghost use Rattle.boxes.specs.Lent.{boxes_in};
 ghost use Rattle.boxes.specs.Walk.{PlaceFits};
@@ -15,7 +17,7 @@ use covering::MaybeCoverage;
 use fault::{Check, Fault};
 use shape::RoundedBox;
 
-#[derive(Drop)]
+#[derive(Clone, Copy)]
 pub enum InsideAnswer {
     AllInside,
     // the lowest place whose box the safe area does not contain, counted from 0

@@ -1,11 +1,13 @@
 // Laying the next mask on the running one, from a line to its answer.
+#![tactic(auto)]
+
 use buffers::{Lengths, MOST_BYTES, MOST_INK};
 use cells::{MaskRecord, Size};
 use fields::{Field, MOST_LINE, Problem};
 use laying::Offset;
 
 // How much is lent of a mask's bytes and of its ink, and of another mask's bytes.
-#[derive(Drop)]
+#[derive(Clone, Copy)]
 struct Lent {
     own: Lengths,
     other: usize,

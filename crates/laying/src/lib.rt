@@ -1,4 +1,6 @@
 // One mask laid on another: `intersect` of coverage.rs, below its refusals.
+#![tactic(auto)]
+
 ghost use Rattle.std.specs.Prelude.{◌≡◌, ◌≤◌, pos, ◌*ℤ◌, length};
 ghost use Rattle.cells.specs.Cells.{cells_of, SizeAllowed};
 ghost use Rattle.cells.specs.Corner.{CornerAllowed};
@@ -10,7 +12,7 @@ ghost use Rattle.laying.specs.Starts.{rows_met, MetRowStart};
 use cells::{Corner, Size};
 
 // Where a mask's corner lies in the other: its cell (column, row) meets (column + x, row + y).
-#[derive(Drop)]
+#[derive(Clone, Copy)]
 pub struct Offset {
     pub x: i32,
     pub y: i32,
@@ -30,7 +32,7 @@ impl Offset {
 }
 
 // The first cell of ours and the first of the other's that meet, along a row or down a column.
-#[derive(Drop)]
+#[derive(Clone, Copy)]
 struct Start {
     own: usize,
     other: usize,

@@ -1,5 +1,7 @@
 // Boxes, coverages and bounds as lent floats (crate boxes reads boxes and frames): what crosses the C
 // boundary beside numbers.
+#![tactic(auto)]
+
 ghost use Rattle.std.specs.Prelude.{◌≡◌, ◌≤◌, length};
 ghost use Rattle.lent_floats.specs.Lent.{coverage_in, bounds_in, box_floats, coverage_floats, bounds_floats, outline_floats, cut_outline_floats, over};
 

@@ -1,16 +1,18 @@
 // The call that a line holds, answered.
+#![tactic(auto)]
+
 use buffers::{Lengths, MOST_BYTES, MOST_INK};
 use fields::{Field, MOST_LINE, Problem};
 
 // The lengths of the running mask's buffers and of the next mask's.
-#[derive(Drop)]
+#[derive(Clone, Copy)]
 pub struct Held {
     pub run: Lengths,
     pub next: Lengths,
 }
 
 // The buffers' lengths after a line, and what is wrong with the line.
-#[derive(Drop)]
+#[derive(Clone, Copy)]
 pub struct AfterLine {
     pub held: Held,
     pub problem: Problem,

@@ -1,9 +1,11 @@
 // The calls on a list of boxes, from their lines: `touch` and `inside`, and the same of a list of copies.
+#![tactic(auto)]
+
 ghost use Rattle.std.specs.Prelude.{◌*◌, ◌≤◌, length};
 
 use fields::{Field, MOST_BOXES, MOST_FLOATS, MOST_LINE, Problem};
 
-#[derive(Drop)]
+#[derive(Clone, Copy)]
 enum ListCall {
     Touch,
     Inside,

@@ -1,4 +1,6 @@
 // The public calls on masks.
+#![tactic(auto)]
+
 ghost use Rattle.std.specs.Prelude.{◌≡◌, length};
 ghost use Rattle.cells.specs.Cells.{SizeAllowed};
 ghost use Rattle.ink.specs.Lent.{lent, LentEnough};
@@ -15,7 +17,7 @@ use laying::Offset;
 use words::Scan;
 
 // What a call answers: it is done, or turned away for a cause of document 01's table.
-#[derive(Drop)]
+#[derive(Clone, Copy)]
 pub enum Outcome {
     Done,
     Refused(Fault),

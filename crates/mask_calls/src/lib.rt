@@ -1,4 +1,6 @@
 // The calls on a mask buffer and its ink, by their names.
+#![tactic(auto)]
+
 use buffers::{AfterCall, Lengths, MOST_BYTES, MOST_INK};
 use fields::{Field, MOST_LINE, Problem};
 

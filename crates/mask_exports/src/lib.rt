@@ -1,6 +1,8 @@
 // The calls on masks, on lent slices: numbers in, a number back. Crate beamnettle exports each under its name;
 // include/beamnettle.h says what each does in words. Each contract gives the number and all that is lent
 // afterwards outright.
+#![tactic(auto)]
+
 ghost use Rattle.std.specs.Prelude.{◌≡◌, length};
 ghost use Rattle.ink.specs.Lent.{lent};
 ghost use Rattle.mask.specs.Calls.{outcome_number, draw_answer, lay_answer, lay_placed_answer};

@@ -1,6 +1,8 @@
 // Square roots and hypot, which the language lacks. Each contract gives the result outright, for every
 // argument, as a definition of specs/. At f32 both take a guess by floats where an exact check holds
 // it, and else whole numbers.
+#![tactic(auto)]
+
 ghost use Rattle.std.specs.Prelude.{◌≡◌, ◌⊎◌, ◌*◌, ◌^◌, ◌≤◌, ◌<◌, T};
 ghost use Rattle.std.specs.Float.{binary32, binary64};
 ghost use Rattle.std.specs.Float.Ieee.Positive.{positive};
@@ -13,7 +15,7 @@ use float::Parts;
 
 // ---- a root by its digits
 
-#[derive(Drop)]
+#[derive(Clone, Copy)]
 struct Aligned {
     a: u64,
     shift: u64,

@@ -1,5 +1,7 @@
 // An outline: what is refused of its verbs and positions, and its single contour. `contour` of
 // femtovg's clip/shape.rs.
+#![tactic(auto)]
+
 ghost use Rattle.std.specs.Prelude.{◌≡◌, ◌<◌, ◌≤◌, length};
 ghost use Rattle.outline.specs.Outline.{verb_check_of, verbs_check_of, floats_of, floats_needed_of, all_in_range_of, most_verbs, most_points, outline_check_of};
 ghost use Rattle.outline.specs.Contour.{Contour, new_contour, same_place_of, draw_of, move_of, contour_step_of, contour_of};
@@ -18,14 +20,14 @@ pub const MOST_SEGMENTS: usize = 256;
 pub const MOST_POINTS: usize = 257;
 
 // A line's end, or a curve's three points.
-#[derive(Drop)]
+#[derive(Clone, Copy)]
 pub enum Segment {
     Line(f32, f32),
     Cubic(f32, f32, f32, f32, f32, f32),
 }
 
 // A segment as an array holds it.
-#[derive(Drop)]
+#[derive(Clone, Copy)]
 pub struct Piece {
     pub segment: Segment,
 }
@@ -120,7 +122,7 @@ pub fn same_place(p: Position, q: Position) -> bool
 
 // What is kept of a contour: its start and last position, how many segments it has, and whether all
 // of them are lines.
-#[derive(Drop)]
+#[derive(Clone, Copy)]
 pub struct Walk {
     pub started: bool,
     pub closed: bool,
@@ -132,7 +134,7 @@ pub struct Walk {
     pub count: usize,
 }
 
-#[derive(Drop)]
+#[derive(Clone, Copy)]
 pub enum Step {
     Go(Walk),
     Stop,
@@ -308,7 +310,7 @@ fn candidate(verb: Verb) -> Segment
 }
 
 // The segments of a contour.
-#[derive(Drop)]
+#[derive(Clone, Copy)]
 pub struct SegmentList {
     pub pieces: [Piece; MOST_SEGMENTS],
 }

@@ -1,9 +1,11 @@
 // The calls on outlines.
+#![tactic(auto)]
+
 ghost use Rattle.std.specs.Prelude.{◌≤◌};
 
 use fields::{MOST_FLOATS, MOST_LINE, MOST_VERBS, Problem};
 
-#[derive(Drop)]
+#[derive(Clone, Copy)]
 enum OutlineCall {
     Fit,
     FitOutline,

@@ -2,6 +2,8 @@
 // lent for them. Crate beamnettle exports each under its name; include/beamnettle.h says what each does in
 // words. (`upright_rect`, which takes a frame too: crate window_exports.) Each contract gives the number and
 // all that is lent afterwards outright.
+#![tactic(auto)]
+
 ghost use Rattle.std.specs.Prelude.{◌≡◌};
 ghost use Rattle.boundary.specs.Answers.{after, box_handed, outline_handed, cut_handed};
 ghost use Rattle.outline_exports.specs.Calls.{fit_lent, fit_outline_lent, fit_with_cut_lent};

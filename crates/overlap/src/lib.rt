@@ -3,6 +3,8 @@
 //
 // A call refuses as document 01 says and else answers what the Rust does. What it rests on ends in
 // `_unchecked` and takes any floats. Each contract gives the answer outright, by a definition of specs/.
+#![tactic(auto)]
+
 ghost use Rattle.std.specs.Prelude.{◌≡◌, ◌<◌};
 ghost use Rattle.overlap.specs.Overlap.{with_corners_of, leaves_one_of, leaves_two_of, near_of, follows_of, chosen_of};
 ghost use Rattle.overlap.specs.Overlap.{round_overlap_of, corner_overlap_of, overlap_of, intersection_within_of};

@@ -1,11 +1,13 @@
 // The verbs of an outline: femtovg's path.rs. An outline is verb bytes and positions, two floats each.
+#![tactic(auto)]
+
 ghost use Rattle.std.specs.Prelude.{◌≡◌, ◌+◌, ◌*◌, ◌≤◌, length};
 ghost use Rattle.path.specs.Verbs.{unpacked_of, num_coordinates_of, from_packed_of};
 
 use fault::Fault;
 
 // A verb as its byte says it, MoveTo 0 to Close 5.
-#[derive(Drop)]
+#[derive(Clone, Copy)]
 pub enum PackedVerb {
     MoveTo,
     LineTo,
@@ -16,14 +18,14 @@ pub enum PackedVerb {
 }
 
 // A byte's verb, or the refusal of a byte that is none.
-#[derive(Drop)]
+#[derive(Clone, Copy)]
 pub enum Unpacked {
     Verb(PackedVerb),
     Refused(Fault),
 }
 
 // A verb with its positions.
-#[derive(Drop)]
+#[derive(Clone, Copy)]
 pub enum Verb {
     MoveTo(f32, f32),
     LineTo(f32, f32),

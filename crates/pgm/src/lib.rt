@@ -1,4 +1,6 @@
 // Masks as raw Netpbm PGM files, written and read: document 02, changes 4, 8 and 9.
+#![tactic(auto)]
+
 ghost use Rattle.std.specs.Prelude.{◌≡◌, length};
 ghost use Rattle.ink.specs.Lent.{lent};
 ghost use Rattle.pgm.specs.Calls.{no_cells, write_check, write_call, file_after, read_check, raster_call, read_call, raster_over, mask_after_reading, ink_after_reading};
@@ -11,14 +13,14 @@ use pgm_reader::Header;
 const DEPTH: usize = 255;
 
 // What writing answers: the file's length, or why it is turned away.
-#[derive(Drop)]
+#[derive(Clone, Copy)]
 pub enum WriteAnswer {
     Written(usize),
     Refused(Fault),
 }
 
 // What reading answers: the mask's record, or why it is turned away.
-#[derive(Drop)]
+#[derive(Clone, Copy)]
 pub enum ReadAnswer {
     Read(MaskRecord),
     Refused(Fault),

@@ -1,4 +1,6 @@
 // The calls on PGM files, from a line to its answer.
+#![tactic(auto)]
+
 use buffers::{Lengths, MOST_BYTES, MOST_INK};
 use cells::Size;
 use fields::{MOST_LINE, Problem};

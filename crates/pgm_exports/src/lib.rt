@@ -1,6 +1,8 @@
 // The calls on PGM files, on lent slices: numbers in, a number back, a mask's record written to what is lent
 // for it. Crate beamnettle exports each under its name; include/beamnettle.h says what each does in words.
 // Each contract gives the number and all that is lent afterwards outright.
+#![tactic(auto)]
+
 ghost use Rattle.std.specs.Prelude.{◌≡◌, length};
 ghost use Rattle.boundary.specs.Answers.{write_number, read_number, size_after, corner_after};
 ghost use Rattle.ink.specs.Lent.{lent};

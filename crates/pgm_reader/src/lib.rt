@@ -1,4 +1,6 @@
 // The header of a raw Netpbm PGM file, read: document 02, change 4.
+#![tactic(auto)]
+
 ghost use Rattle.std.specs.Prelude.{◌≡◌, ◌≤◌, length, take, drop};
 ghost use Rattle.pgm_reader.specs.Reading.{is_space, is_digit, leading, value_of};
 ghost use Rattle.pgm_reader.specs.Reading.{read_field, read_positive, read_depth, read_fields, read_header};
@@ -10,21 +12,21 @@ use cells::Size;
 const MOST_DIGITS: usize = 9;
 
 // A kind of byte that stands in runs.
-#[derive(Drop)]
+#[derive(Clone, Copy)]
 enum Kind {
     Space,
     Digit,
 }
 
 // A number of the header and the place behind it.
-#[derive(Drop)]
+#[derive(Clone, Copy)]
 enum Field {
     Number(usize, usize),
     Bad,
 }
 
 // What a header says, size and depth, and the place of the raster behind it.
-#[derive(Drop)]
+#[derive(Clone, Copy)]
 pub enum Header {
     Read(Size, usize, usize),
     Bad,

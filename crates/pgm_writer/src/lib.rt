@@ -1,4 +1,6 @@
 // A mask as the bytes of a raw Netpbm PGM file, put into a lent buffer: document 02, change 4.
+#![tactic(auto)]
+
 ghost use Rattle.std.specs.Prelude.{◌≡◌, ◌+◌, ◌≤◌, ◌<◌, length};
 ghost use Rattle.cells.specs.Cells.{SizeAllowed};
 ghost use Rattle.cells.specs.Over.{over};

@@ -1,1 +1,2 @@
 // The reckoner and the claim about lists of calls: definitions and proofs, no code.
+#![tactic(auto)]

@@ -1,9 +1,11 @@
 // A mask's record, out of a line's fields.
+#![tactic(auto)]
+
 use cells::{Corner, MaskRecord, Size};
 use fields::MOST_LINE;
 
 // A mask's record, whether there is one, and the place behind it.
-#[derive(Drop)]
+#[derive(Clone, Copy)]
 pub struct RecordField {
     pub value: MaskRecord,
     pub good: bool,

@@ -1,9 +1,11 @@
 // A whole root by its binary digits, and its half rounded: what roots are made of.
+#![tactic(auto)]
+
 ghost use Rattle.std.specs.Prelude.{◌≡◌, ◌⊎◌, ◌^◌, ◌≤◌};
 ghost use Rattle.root_digits.specs.Digits.{RootDigits, Extendable, Extended, rounded_half};
 
 // A whole root, and what its square lacks of the number.
-#[derive(Drop)]
+#[derive(Clone, Copy)]
 pub struct Root {
     pub root: u64,
     pub rest: u64,

@@ -1,5 +1,7 @@
 // Square roots and hypot, by whole numbers: the language has neither. Each contract gives the result
 // outright, for every argument, as a definition of specs/.
+#![tactic(auto)]
+
 ghost use Rattle.std.specs.Prelude.{◌≡◌, ◌⊎◌, ◌^◌, ◌≤◌, ◌<◌, T};
 ghost use Rattle.std.specs.Float.{binary32, binary64};
 ghost use Rattle.std.specs.Float.Ieee.Positive.{positive};
@@ -9,7 +11,7 @@ ghost use Rattle.roots.specs.Digits.{RootDigits, Extendable, Extended, AlignedBy
 use float::Parts;
 
 // A whole root, and what its square lacks of the number.
-#[derive(Drop)]
+#[derive(Clone, Copy)]
 struct Root {
     root: u64,
     rest: u64,
@@ -103,7 +105,7 @@ fn round_root(root: u64, rest: u64) -> u64
     q + 1
 }
 
-#[derive(Drop)]
+#[derive(Clone, Copy)]
 struct Aligned {
     a: u64,
     shift: u64,

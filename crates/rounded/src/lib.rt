@@ -1,5 +1,7 @@
 // The box that a curved outline draws, its strays, and the box that cuts it: `rounded` of femtovg's
 // clip/shape.rs. Each contract gives the result outright, by a definition of specs/.
+#![tactic(auto)]
+
 ghost use Rattle.std.specs.Prelude.{◌≡◌, ◌&&◌, ◌||◌, ◌<◌, ◌≤◌};
 ghost use Rattle.outline.specs.Outline.{most_verbs, most_points};
 ghost use Rattle.outline.specs.Kept.{points_in, segments_in};
@@ -16,7 +18,7 @@ use samples::MOST_SAMPLES;
 use shape::RoundedBox;
 
 // A box and how far the outline strays outside it; the same with the box that cuts it; or no box.
-#[derive(Drop)]
+#[derive(Clone, Copy)]
 pub enum Fitted {
     Whole(RoundedBox, f32),
     Cut(RoundedBox, f32, RoundedBox),
@@ -83,7 +85,7 @@ fn radii_at(mix: CornerMix, a: Around, p: Position) -> Radii
 }
 
 // How far points lie outside the box, and whether all are on it.
-#[derive(Drop)]
+#[derive(Clone, Copy)]
 pub struct Met {
     pub strays: f32,
     pub near: bool,
@@ -183,7 +185,7 @@ const TURN_TOLERANCE: f32 = 1e-4;
 const ONCE_TOLERANCE: f32 = 0.01;
 
 // How far an outline has turned, and whether any step of it went forward, and any backward.
-#[derive(Drop)]
+#[derive(Clone, Copy)]
 pub struct Turn {
     pub turned: f32,
     pub forward: bool,

@@ -1,5 +1,7 @@
 // The piece of an edge that crosses a row: clipped to the row, and added to its cells. `span` is for
 // the crates above: it is no call of the kiosk's.
+#![tactic(auto)]
+
 ghost use Rattle.std.specs.Prelude.{◌≡◌};
 ghost use Rattle.accumulation.specs.Marks.{Ready};
 ghost use Rattle.row.specs.Row.{ceil_column, inside_of, left_end, right_end, span_of};

@@ -1,5 +1,7 @@
 // The points of an outline of lines and curves, and its anchors: the head of `rounded` of femtovg's
 // clip/shape.rs. Each contract gives the points by a definition of specs/.
+#![tactic(auto)]
+
 ghost use Rattle.std.specs.Prelude.{◌≡◌, [], ◌∷◌, ◌++◌, ◌+◌, ◌<◌, ◌≤◌, length};
 ghost use Rattle.outline.specs.Outline.{most_verbs, most_points};
 ghost use Rattle.outline.specs.Kept.{point_at, points_in, segments_in};

@@ -3,6 +3,8 @@
 //
 // A call refuses as document 01 says and else answers what the Rust does. What it rests on ends in
 // `_unchecked` and takes any floats. Each contract gives the answer outright, by a definition of specs/.
+#![tactic(auto)]
+
 ghost use Rattle.std.specs.Prelude.{◌≡◌};
 ghost use Rattle.scissor.specs.Scissor.{with_scissor_of, x_axis_of, y_axis_of, within_low_of, within_high_of, low_of, high_of, cuts_of};
 ghost use Rattle.scissor.specs.Scissor.{trimmed_sides_of, trim_of, trimmed_scissor_of};
@@ -17,13 +19,13 @@ use shape::{BoxAnswer, MaybeBox, RoundedBox};
 use sides::Sides;
 
 // The Rust's Option<(RoundedBox, ClipCoverage)>.
-#[derive(Drop)]
+#[derive(Clone, Copy)]
 pub enum MaybeBoth {
     Both(RoundedBox, ClipCoverage),
     NoBox,
 }
 
-#[derive(Drop)]
+#[derive(Clone, Copy)]
 pub enum ScissorAnswer {
     Both(RoundedBox, ClipCoverage),
     NoBox,
@@ -71,7 +73,7 @@ pub fn with_scissor(clip: RoundedBox, scissor: RoundedBox, fringe: f32) -> Sciss
 
 // ---- one axis of a box, and of another that is placed in its frame
 
-#[derive(Drop)]
+#[derive(Clone, Copy)]
 pub struct Axis {
     // the box's half extent
     pub extent: f32,

@@ -3,6 +3,8 @@
 // A call of the same name as the Rust's refuses as document 01 says and else answers what the Rust
 // does. What it rests on ends in `_unchecked` and takes any floats. Each contract gives the answer
 // outright, by a definition of specs/.
+#![tactic(auto)]
+
 ghost use Rattle.std.specs.Prelude.{◌≡◌, ◌&&◌, ◌<◌};
 ghost use Rattle.shape.specs.Checks.{in_range_of, both_in_range_of, frame_in_range_of, box_in_range_of, improper_side_of, improper_of};
 ghost use Rattle.shape.specs.Checks.{box_check_of, numbers_check_of, frame_check_of, fringe_check_of, point_check_of};
@@ -16,7 +18,7 @@ use geometry::{Bounds, Position, Transform2D};
 // The fields' order is that of `struct beamnettle_box` in include/beamnettle.h. No contract pins it:
 // compare/run tests it with a C program (compare/header).
 #[repr(C)]
-#[derive(Drop)]
+#[derive(Clone, Copy)]
 pub struct RoundedBox {
     // maps the box, centred on the origin with its sides along the axes, to where its outline lies
     pub frame: Transform2D,
@@ -29,7 +31,7 @@ pub struct RoundedBox {
 }
 
 // The Rust's Option<RoundedBox>.
-#[derive(Drop)]
+#[derive(Clone, Copy)]
 pub enum MaybeBox {
     Box(RoundedBox),
     NoBox,
@@ -37,20 +39,20 @@ pub enum MaybeBox {
 
 // ---- answers
 
-#[derive(Drop)]
+#[derive(Clone, Copy)]
 pub enum BoxAnswer {
     Box(RoundedBox),
     NoBox,
     Refused(Fault),
 }
 
-#[derive(Drop)]
+#[derive(Clone, Copy)]
 pub enum BoundsAnswer {
     Bounds(Bounds),
     Refused(Fault),
 }
 
-#[derive(Drop)]
+#[derive(Clone, Copy)]
 pub enum TestAnswer {
     Done(bool),
     Refused(Fault),

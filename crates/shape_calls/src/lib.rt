@@ -1,8 +1,10 @@
 // The calls on outlines, boxes, lists of boxes and coverages, by their names.
+#![tactic(auto)]
+
 use fields::{Field, MOST_FLOATS, MOST_LINE, Problem};
 
 // The calls that take a number of floats, and nothing else.
-#[derive(Drop)]
+#[derive(Clone, Copy)]
 enum FloatCall {
     Transformed,
     Bounds,

@@ -3,6 +3,8 @@
 //
 // A call refuses as document 01 says and else answers what the Rust does. What it rests on ends in
 // `_unchecked` and takes any floats. Each contract gives the answer outright, by a definition of specs/.
+#![tactic(auto)]
+
 ghost use Rattle.std.specs.Prelude.{◌≡◌};
 ghost use Rattle.sides.specs.Shared.{square_of, both_square_of, sides_of, own_sides_of, placed_sides_of, sides_are_of, apart_of, between_of, raised_of, rect_intersection_of};
 ghost use Rattle.sides.specs.Calls.{rect_intersection_call};
@@ -13,7 +15,7 @@ use geometry::Transform2D;
 use shape::{BoxAnswer, MaybeBox, RoundedBox};
 
 // The sides of an overlap in a box's frame: `low` and `high`.
-#[derive(Drop)]
+#[derive(Clone, Copy)]
 pub struct Sides {
     pub lowx: f32,
     pub lowy: f32,

@@ -1,4 +1,6 @@
 // The root of the sum of two squares of f32s, by its digits: exact whole numbers, rounded once.
+#![tactic(auto)]
+
 ghost use Rattle.std.specs.Prelude.{◌≡◌, ◌⊎◌, ◌+◌, ◌^◌, ◌≤◌, ◌<◌};
 ghost use Rattle.square_sums.specs.Squares.{square, Digits, RootOfSquares, RootOfSum};
 

@@ -1,5 +1,7 @@
 // The sweep of a row: its cells are summed to windings, each cell's coverage is added to the line,
 // and the row is cleared.
+#![tactic(auto)]
+
 ghost use Rattle.std.specs.Prelude.{◌≡◌, map, ◌+◌, ◌-◌, ◌≤◌, ◌<◌, length, replicate, set};
 ghost use Rattle.float.specs.Ops.{f0};
 ghost use Rattle.sweep.specs.Bytes.{share_of, covered_of, bytes_of, add_bytes};
@@ -81,7 +83,7 @@ fn fill_run(line: &mut [u8], from: usize, to: usize, by: u8)
 // ---- runs of a row
 
 // A run of cells that no edge touches: where it starts, its winding and its coverage.
-#[derive(Drop)]
+#[derive(Clone, Copy)]
 pub struct Run {
     pub from: usize,
     pub winding: f32,
@@ -161,7 +163,7 @@ fn sweep_words(line: &mut [u8], cells: &mut [f32], touched: &mut [u64], even_odd
 }
 
 // The columns that a sweep may have changed: from one on up to another, or none where they do not rise.
-#[derive(Drop)]
+#[derive(Clone, Copy)]
 pub struct Touched {
     pub from: usize,
     pub to: usize,

@@ -3,6 +3,8 @@
 // `touch` is what is asked of each box, the walk over the lent boxes (crate boxes), and an end. The
 // borrow checker covers no function with a slice of structs, so it is proved by hand. `touch_floats` is
 // the same over lent floats, and is covered.
+#![tactic(auto)]
+
 ghost use Rattle.std.specs.Prelude.{◌*◌, ◌≤◌, length, ◌≡◌};
 ghost use Rattle.boxes.specs.Lent.{boxes_in};
 ghost use Rattle.boxes.specs.Walk.{PlaceFits};
@@ -14,7 +16,7 @@ use fault::{Check, Fault};
 use geometry::Position;
 use shape::RoundedBox;
 
-#[derive(Drop)]
+#[derive(Clone, Copy)]
 pub enum TouchAnswer {
     // the lowest place whose box the point touches, counted from 0
     Frame(u16),

@@ -1,6 +1,8 @@
 // The upright rect that an outline fills: `upright_rect` of femtovg's clip/shape.rs.
 //
 // The call refuses as document 01 says and else answers what the Rust does, by a definition of specs/.
+#![tactic(auto)]
+
 ghost use Rattle.std.specs.Prelude.{◌≡◌, ◌≤◌, length};
 ghost use Rattle.outline.specs.Outline.{floats_needed_of, most_verbs};
 ghost use Rattle.upright_rect.specs.UprightRect.{upright_only_of, upright_rect_of};

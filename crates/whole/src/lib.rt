@@ -1,5 +1,7 @@
 // Floats and whole numbers: floor, ceil, and the casts to columns and bytes and from whole numbers.
 // Each contract gives the result outright, as a definition of specs/.
+#![tactic(auto)]
+
 ghost use Rattle.std.specs.Prelude.{◌≡◌, ◌*◌, ◌^◌, ◌≤◌, ◌<◌, true};
 ghost use Rattle.std.specs.Float.{binary32};
 ghost use Rattle.std.specs.Float.Ieee.{round, le, to_unsigned};

@@ -1,4 +1,6 @@
 // The calls on a clip, from their floats: beside a scissor or a fill, or as a coverage.
+#![tactic(auto)]
+
 use clip_coverage::ClipCoverage;
 use fields::MOST_FLOATS;
 use geometry::{Bounds, Position};

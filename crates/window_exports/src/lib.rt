@@ -2,6 +2,8 @@
 // floats written to what is lent for them. Crate beamnettle exports each under its name;
 // include/beamnettle.h says what each does in words. Each contract gives the number and all that is lent
 // afterwards outright.
+#![tactic(auto)]
+
 ghost use Rattle.std.specs.Prelude.{◌≡◌};
 ghost use Rattle.boundary.specs.Answers.{after, box_handed, both_box_handed, both_coverage_handed, fill_handed, test_number};
 ghost use Rattle.window_exports.specs.Calls.{with_scissor_lent, trimmed_scissor_lent, rect_fill_lent, upright_rect_lent, reach_lent, holds_lent};

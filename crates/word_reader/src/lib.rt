@@ -1,6 +1,8 @@
 // One word of a mask's word list, two, and the word reader. Functions take the list and a place in
 // it; what stands there is what a definition reads from that place on. The public functions are
 // for the crates above: none is a call of the kiosk's.
+#![tactic(auto)]
+
 ghost use Rattle.std.specs.Prelude.{◌≡◌, ◌+◌, drop};
 ghost use Rattle.word_list.specs.Words.{beyond, read_count, read_coordinate};
 ghost use Rattle.word_reader.specs.Reader.{ahead, word_of, alone_of, is_even_odd, counted_of, checked_of};
@@ -8,21 +10,21 @@ ghost use Rattle.word_reader.specs.Reader.{ahead, word_of, alone_of, is_even_odd
 use fault::Fault;
 
 // A count word.
-#[derive(Drop)]
+#[derive(Clone, Copy)]
 pub enum Counted {
     Count(usize),
     Refused(Fault),
 }
 
 // A word or a pair of words that is only checked.
-#[derive(Drop)]
+#[derive(Clone, Copy)]
 pub enum Checked {
     Good,
     Refused(Fault),
 }
 
 // A word of the list, or its end.
-#[derive(Drop)]
+#[derive(Clone, Copy)]
 pub enum Word {
     Value(i32),
     End,
@@ -77,14 +79,14 @@ impl Word {
 }
 
 // Two words of the list, one behind the other.
-#[derive(Drop)]
+#[derive(Clone, Copy)]
 pub struct Pair {
     pub first: Word,
     pub second: Word,
 }
 
 // The head of a group: its rule, and its count of contours.
-#[derive(Drop)]
+#[derive(Clone, Copy)]
 pub struct Head {
     pub even_odd: bool,
     pub contours: Counted,
@@ -112,7 +114,7 @@ fn place_behind(words: &[i32], at: usize) -> usize
 
 // The word reader: the lent list and the place of its next word. The borrow checker covers no
 // function over it, so each is thin and its proof by hand; the work is done by those above.
-#[derive(Drop)]
+#[derive(Clone, Copy)]
 struct WordReader<'a> {
     words: &'a [i32],
     at: usize,

@@ -1,5 +1,7 @@
 // The word list of a mask: the first word at fault, or how many points it has. Functions take the
 // list and a place in it; what stands there is what a definition reads from that place on.
+#![tactic(auto)]
+
 ghost use Rattle.std.specs.Prelude.{◌≡◌, ◌+◌, ◌≤◌, length, drop};
 ghost use Rattle.word_list.specs.Words.{read_point, read_points, read_contour, read_contours, read_group, read_words, points_of, points_in};
 ghost use Rattle.word_reader.specs.Reader.{checked_of};
@@ -10,7 +12,7 @@ use fault::Fault;
 use word_reader::{Checked, Counted};
 
 // How reading goes on: at a place of the list, behind so many of its points.
-#[derive(Drop)]
+#[derive(Clone, Copy)]
 pub enum Scan {
     At(usize, usize),
     Refused(Fault),

@@ -1,4 +1,6 @@
 // What is written: text, bytes, numbers, floats, yes or no, a place, what is wrong with a line.
+#![tactic(auto)]
+
 use fields::Problem;
 use libc::STDOUT_FILENO;
 

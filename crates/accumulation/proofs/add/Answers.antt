@@ -1,0 +1,34 @@
+-- `accumulation::add` meets its contract: one cell changes, and it is marked. Assumes nothing.
+use mathlib.Core.Logic.{⊎_elim}
+use native.Mathlib.Omega.{arith}
+use lib.ListN.{length-set}
+use Rattle.accumulation.proofs.Marks.{ready_marked}
+use Rattle.accumulation.proofs.Adding.{add_in, add_none, add_out, set_apart}
+use borrow.Author.Rules.{rules}
+use Rattle.accumulation.proofs.add.Goals as goal
+
+pub mark-requires : goal.mark-requires
+mark-requires c =
+    let p = c.requires in
+    record {
+      n_nonzero = (omega arith, omega arith);
+      cell_bound = (omega (arith, p.narrow), omega (arith, p.narrow, p.words));
+    }
+
+pub returns-then-area : goal.returns-then-area
+returns-then-area c =
+    let args = c.args in
+    record {
+      cells_after = add_in args.cells.now args.cell args.area c.if-cell-cells.true c.if-area.true;
+      ready = ready_marked c.requires c.mark.ensures (length-set args.cells.now args.cell _) (set_apart args.cells.now args.cell _);
+    }
+
+pub returns-else-cell-cells : goal.returns-else-cell-cells
+returns-else-cell-cells c =
+    let args = c.args in
+    let kept = ⊎_elim (λ both. add_none args.cells.now args.cell args.area both.1.left)
+    (λ past. add_out args.cells.now args.cell args.area past.left) c.else-cell-cells.branch in
+    record {
+      cells_after = kept;
+      ready = c.requires;
+    }

@@ -1,0 +1,15 @@
+-- `active_edges::pieces` meets its contract: the active edges, one more at a time. Assumes nothing.
+use mathlib.Core.Path.{sym}
+use Prim.Native.Nat.{◌-◌}
+use native.Mathlib.Omega.{arith}
+use lib.Seq.{length-take-le, length_front}
+use Rattle.active_edges.proofs.RowEdges.{PiecesAt, PiecesRoom, row_start, row_room, row_turn, row_done}
+use borrow.Author.Rules.{rules}
+use Rattle.active_edges.proofs.pieces.Given as goal
+
+abbrev pub invariant-loop-i : goal.invariant-loop-i
+invariant-loop-i l =
+    PiecesAt l.initial.floats l.initial.touched l.l l.n l.height l.top l.bottom l.floats l.touched l.kept l.i
+
+abbrev pub decreases-loop-i : goal.decreases-loop-i
+decreases-loop-i l = l.n - l.i

@@ -1,0 +1,11 @@
+-- `beamnettle::beamnettle_lay` meets its contract: the offset's numbers fit. Assumes nothing.
+use mir.Syntax.{w32}
+use mir.ValLaws.{to_z-of_z}
+use borrow.Author.Rules.{rules}
+use Rattle.beamnettle.proofs.beamnettle_lay.Goals as goal
+
+pub returns : goal.returns
+returns c =
+    let across = to_z-of_z w32 c.args.offset-x c.ranges.offset-x in
+    let down = to_z-of_z w32 c.args.offset-y c.ranges.offset-y in
+    rw (across, down) at c.lay.ensures

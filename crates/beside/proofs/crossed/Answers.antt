@@ -1,0 +1,11 @@
+-- `beside::crossed` meets its contract. Assumes nothing.
+use Rattle.beside.specs.Alongside.{crossed_of}
+use Rattle.beside.proofs.crossed.Goals as goal
+
+pub returns-then-aligned : goal.returns-then-aligned
+unfolding crossed_of
+returns-then-aligned c = rw (← c.scale-scale.ensures, ← c.aligned.ensures, c.if-aligned.true) c.aligned-then-aligned.ensures
+
+pub returns-else-aligned : goal.returns-else-aligned
+unfolding crossed_of
+returns-else-aligned c = rw (← c.scale-scale.ensures, ← c.aligned.ensures, c.if-aligned.false)

@@ -1,0 +1,6 @@
+-- `boxes::Found::check` meets its contract. Assumes nothing.
+use borrow.Author.Rules.{rules}
+use Rattle.boxes.proofs.Found.check.Goals as goal
+
+pub returns-in-Refused : goal.returns-in-Refused
+returns-in-Refused c = rw c.in-Refused.is

@@ -1,0 +1,6 @@
+-- `boxes::Found::going` meets its contract. Assumes nothing.
+use borrow.Author.Rules.{rules}
+use Rattle.boxes.proofs.Found.going.Goals as goal
+
+pub returns : goal.returns
+returns c = rw (← c.check.ensures, c.in_default.is)

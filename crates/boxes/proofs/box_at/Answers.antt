@@ -1,0 +1,6 @@
+-- `boxes::box_at` meets its contract. Assumes nothing.
+use borrow.Author.Rules.{rules}
+use Rattle.boxes.proofs.box_at.Goals as goal
+
+pub returns : goal.returns
+returns c = rw c.frame_at-frame.ensures

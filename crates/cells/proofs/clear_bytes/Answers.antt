@@ -1,0 +1,16 @@
+-- `cells::clear_bytes` meets its contract: cleared from the front. Assumes nothing.
+use Prim.Native.Nat.{◌-◌}
+use native.Mathlib.Omega.{arith}
+use lib.ListN.{length}
+use Rattle.cells.proofs.Cleared.{Cleared, cleared_none, cleared_more, cleared_all}
+use borrow.Author.Rules.{rules}
+use Rattle.cells.proofs.clear_bytes.Goals as goal
+
+pub loop-i-init : goal.loop-i-init
+loop-i-init c = cleared_none
+
+pub loop-i-preserved : goal.loop-i-preserved
+loop-i-preserved c = cleared_more c.loop-i.invariant (omega arith)
+
+pub returns : goal.returns
+returns c = cleared_all c.loop-i.invariant (omega arith)

@@ -1,0 +1,6 @@
+-- `corner_radii::left` meets its contract. Assumes nothing.
+use borrow.Author.Rules.{rules}
+use Rattle.corner_radii.proofs.left.Goals as goal
+
+pub returns-in-Reaches : goal.returns-in-Reaches
+returns-in-Reaches c = rw c.in-Reaches.is

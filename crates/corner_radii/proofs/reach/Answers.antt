@@ -1,0 +1,17 @@
+-- `corner_radii::reach` meets its contract: how far the side reaches by the anchors passed so far. Assumes nothing.
+use Prim.Native.Nat.{◌-◌}
+use borrow.Author.Rules.{rules}
+use Rattle.samples.proofs.Folds.{Folded, fold_begins, fold_goes, fold_ends}
+use Rattle.corner_radii.specs.declared.Far.TheVariants as fars
+use Rattle.corner_radii.specs.Radii.{reach_step_of}
+use Rattle.corner_radii.proofs.reach.Goals as goal
+
+pub loop-i-init : goal.loop-i-init
+loop-i-init c = fold_begins
+
+pub loop-i-preserved : goal.loop-i-preserved
+loop-i-preserved c =
+    fold_goes c.loop-i.invariant c.loop-i-test.true c.reach_step-far.ensures
+
+pub returns : goal.returns
+returns c = fold_ends c.loop-i.invariant c.loop-i-test.false

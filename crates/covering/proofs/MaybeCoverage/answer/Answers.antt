@@ -1,0 +1,9 @@
+-- `covering::MaybeCoverage::answer` meets its contract. Assumes nothing.
+use borrow.Author.Rules.{rules}
+use Rattle.covering.proofs.MaybeCoverage.answer.Goals as goal
+
+pub returns-in_default : goal.returns-in_default
+returns-in_default c = rw c.in_default.is
+
+pub returns : goal.returns
+returns c = rw c.in-Coverage.is

@@ -1,0 +1,15 @@
+-- `edge::table` meets its contract: from the last edge to the first, the edges behind are in the table. Assumes
+-- nothing.
+use mathlib.Core.Path.{◌≡◌, ap, ◌∙◌, subst}
+use native.Mathlib.Omega.{arith}
+use Rattle.edge.specs.Edges.{start_row}
+use Rattle.edge.specs.Table.{InTable}
+use Rattle.edge.proofs.Linking.{TableAt, TableRoom, table_start, table_room, table_link, table_turn}
+use borrow.Author.Rules.{rules}
+use Rattle.edge.proofs.table.Given as goal
+
+abbrev pub invariant-loop-i : goal.invariant-loop-i
+invariant-loop-i l = TableAt l.initial.floats l.initial.heads l.l l.floats l.heads l.i
+
+abbrev pub decreases-loop-i : goal.decreases-loop-i
+decreases-loop-i l = l.i

@@ -1,0 +1,6 @@
+-- `fit::outline_answer` meets its contract. Assumes nothing.
+use borrow.Author.Rules.{rules}
+use Rattle.fit.proofs.outline_answer.Goals as goal
+
+pub returns-in-Whole : goal.returns-in-Whole
+returns-in-Whole c = rw c.in-Whole.is

@@ -1,0 +1,41 @@
+-- `groups::draw` meets its contract. Assumes nothing.
+use mathlib.Core.Path.{ap, ◌∙◌}
+use Prim.Native.Nat.{ℕ}
+use lib.ListN.{length, replicate}
+use Rattle.float.specs.Ops.{f0}
+use Rattle.ink.proofs.Kept.{kept_zeros, kept_all}
+use Rattle.groups.proofs.Cleared.{prefix, floats_long, counters_long, cleared_room, cleared_clean, cleared_zeros}
+use borrow.Author.Rules.{rules}
+use Rattle.groups.proofs.draw.Goals as goal
+
+pub slice_bounds-clear_floats-end-2 : goal.slice_bounds-clear_floats-end-2
+slice_bounds-clear_floats-end-2 c = prefix c.requires.room
+
+pub draw_groups-requires : goal.draw_groups-requires
+draw_groups-requires c =
+    let bytes = c.clear_bytes.ensures in
+    let args = c.args in
+    let floats = c.clear_floats.ensures in
+    let counters = c.clear_counters.ensures in
+    let kept = kept_zeros (length args.mask.now) (length args.ink.now) bytes c.clear.ensures (c.clear.auto.ink ∙ c.requires.ink_len) in
+    record {
+      room = cleared_room c.requires.room bytes floats counters;
+      clean = cleared_clean c.requires.room bytes floats counters;
+      mask_value = cleared_zeros c.requires.room bytes floats counters;
+      list_counted = c.requires.list_counted;
+      ink_kept = kept;
+    }
+
+pub returns : goal.returns
+returns c =
+    let bytes = c.clear_bytes.ensures in
+    let room = c.requires.room in
+    let floats = c.clear_floats.ensures in
+    let counters = c.clear_counters.ensures in
+    let kept = c.draw_groups.auto.1.1 in
+    record {
+      mask_after = c.draw_groups.ensures.mask_after;
+      floats_after = c.clear_floats-2.ensures ∙ ap (λ (n : ℕ). replicate n f0) (kept.0 ∙ floats_long room bytes floats counters);
+      counters_after = c.clear_counters-2.ensures ∙ ap (λ (n : ℕ). replicate n 0) (kept.1.0 ∙ counters_long room bytes floats counters);
+      ink_after = kept_all c.draw_groups.ensures.ink_kept_2;
+    }

@@ -1,0 +1,15 @@
+-- `laying::lay_cells` meets its contract: what is left to do is done as before. Assumes nothing.
+use mathlib.Core.Path.{◌≡◌, refl, sym, ◌∙◌}
+use Prim.Native.Nat.{◌-◌, ◌≤◌}
+use native.Mathlib.Omega.{arith}
+use lib.ListN.{length, length-set}
+use borrow.Author.Rules.{rules}
+use Rattle.laying.specs.Lines.{under_of}
+use Rattle.laying.proofs.Cells.{laid, laid_more, laid_all}
+use Rattle.laying.proofs.lay_cells.Given as goal
+
+abbrev pub invariant-loop-i : goal.invariant-loop-i
+invariant-loop-i l = (l.i ≤ length l.initial.cells) × (length l.cells ≡ length l.initial.cells) × (under_of l.initial.cells l.others ≡ laid l.i l.cells l.others)
+
+abbrev pub decreases-loop-i : goal.decreases-loop-i
+decreases-loop-i l = length l.initial.cells - l.i

@@ -1,0 +1,37 @@
+-- `roots::root64` meets its contract, by the laws of proofs/Rooting.antt over the width. Assumes nothing.
+use Rattle.root_digits.proofs.Halves.{rounded_le, rounded_ge}
+use Rattle.nearest_roots.proofs.Rooting.{digits_pos, root_of}
+use lib.Ieee.Positive.{positive-finite}
+use mathlib.Core.Logic.{inr}
+use mathlib.Core.Path.{refl, ◌∙◌}
+use native.Mathlib.Omega.{arith}
+use Rattle.nearest_roots.proofs.root64.Goals as goal
+
+pub unpack64-p-requires : goal.unpack64-p-requires
+unpack64-p-requires c = positive-finite c.args.x c.requires
+
+pub root_parts-r-requires : goal.root_parts-r-requires
+root_parts-r-requires c =
+    let u = c.unpack64-p.ensures in
+    let e = u.fields in
+    record {
+      d_nonzero = digits_pos u c.requires;
+      d_bound = u.small;
+      fact = inr refl;
+      e_bound = omega arith;
+      le_bias = omega arith;
+      bias_bound = omega arith;
+    }
+
+pub pack64-requires : goal.pack64-requires
+pack64-requires c =
+    let r = c.root_parts-r.ensures in
+    let e = r.exponent in
+    record {
+      q_bound = rw r.kept (rounded_le 53 r.root r.rest r.short);
+      k_bound = omega arith;
+      fact = inr (rw r.kept (rounded_ge 52 r.root r.rest r.high));
+    }
+
+pub returns : goal.returns
+returns c = c.pack64.ensures ∙ root_of c.unpack64-p.ensures c.requires refl c.root_parts-r.ensures

@@ -1,0 +1,28 @@
+-- `outline::Walk::draw` meets its contract. Assumes nothing.
+use Rattle.outline.proofs.Walking.{draw_shut, draw_same, draw_line, draw_curve}
+use borrow.Author.Rules.{rules}
+use Rattle.outline.proofs.Walk.draw.Goals as goal
+
+pub returns-then-shut : goal.returns-then-shut
+returns-then-shut c = λ k e. draw_shut k e c.shut.ensures c.args.segment c.if-shut.true
+
+pub returns-then-same_place : goal.returns-then-same_place
+returns-then-same_place c =
+    λ k e.
+    draw_same k e c.shut.ensures c.if-shut.false c.in-Line.is c.same_place.ensures c.if-same_place.true
+
+pub pushed-requires : goal.pushed-requires
+pushed-requires c = c.requires
+
+pub pushed-requires-in-Cubic : goal.pushed-requires-in-Cubic
+pushed-requires-in-Cubic c = c.requires
+
+pub returns-else-same_place : goal.returns-else-same_place
+returns-else-same_place c =
+    λ k e.
+    draw_line k e c.shut.ensures c.if-shut.false c.in-Line.is c.same_place.ensures c.if-same_place.false
+    c.pushed.ensures
+
+pub returns-in-Cubic : goal.returns-in-Cubic
+returns-in-Cubic c =
+    λ k e. draw_curve k e c.shut.ensures c.if-shut.false c.in-Cubic.is c.pushed-in-Cubic.ensures

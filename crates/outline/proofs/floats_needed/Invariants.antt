@@ -1,0 +1,14 @@
+-- `outline::floats_needed` meets its contract: the sum so far with what the verbs left need is what all need. Assumes
+-- nothing.
+use Prim.Native.Nat.{◌-◌}
+use borrow.Author.Rules.{rules}
+use Rattle.outline.proofs.Scan.{Summed, sum_next, sum_all}
+use lib.ListN.{length}
+use native.Mathlib.Omega.{arith}
+use Rattle.outline.proofs.floats_needed.Given as goal
+
+abbrev pub invariant-loop-i : goal.invariant-loop-i
+invariant-loop-i l = Summed l.verbs l.sum l.i
+
+abbrev pub decreases-loop-i : goal.decreases-loop-i
+decreases-loop-i l = length l.verbs - l.i

@@ -1,0 +1,19 @@
+-- ---- the states
+-- `outline::segments` meets its contract: the walk so far stands for a contour, from which the verbs left lead to
+-- where all lead, and its segments are stored. Assumes nothing.
+use Prim.Native.Nat.{◌-◌, ◌<◌, ◌≤◌}
+use mathlib.Core.Path.{refl, sym, ◌∙◌}
+use borrow.Author.Rules.{rules}
+use Rattle.outline.specs.Outline.{most_verbs}
+use Rattle.outline.proofs.Scan.{floats_next}
+use Rattle.outline.proofs.Contouring.{Walking, begins, count_fits, bad_byte, room, stops, goes}
+use Rattle.outline.proofs.Storing.{Pieces, none_stored, pieces_kept, pieces_all}
+use lib.ListN.{length}
+use native.Mathlib.Omega.{arith}
+use Rattle.outline.proofs.segments.Given as goal
+
+abbrev pub invariant-loop-i : goal.invariant-loop-i
+invariant-loop-i l = Walking (Pieces l.pieces) l.verbs l.positions l.walk l.i l.at
+
+abbrev pub decreases-loop-i : goal.decreases-loop-i
+decreases-loop-i l = length l.verbs - l.i

@@ -1,0 +1,62 @@
+-- `roots::root_by_digits` meets its contract: proofs/RootLoop.antt has the invariant and shows that a turn keeps it.
+-- Assumes nothing.
+use Prim.Native.Nat.{ℕ, ◌*◌, ◌/◌, ◌^◌, ◌-◌, ◌≤◌, ◌<◌}
+use Rattle.roots.proofs.RootLoop.{Digits, start, pair_lt, root_fits, step_one, step_zero}
+use mathlib.Core.Logic.{⊎_elim}
+use mathlib.Core.Path.{◌≡◌, ap, ◌∙◌, subst}
+use native.Mathlib.Nat.{le_antisymm}
+use native.Mathlib.Omega.{arith}
+use Rattle.roots.proofs.root_by_digits.Goals as goal
+
+-- the numbers of a turn are small
+small : (c : tie.In-loop invariant-loop decreases-loop)
+    → (c.before.loop.rest ≤ 2 * c.before.loop.root) × (c.before.loop.root < 2 ^ 54) × (c.before.loop.left / 2 ^ 62 < 4)
+small c =
+    let d = c.before.loop.invariant in
+    (d.within, root_fits d c.loop-test.true c.before.before.requires, pair_lt d c.loop-test.true)
+
+pub loop-i-init : goal.loop-i-init
+loop-i-init c = start c.args.a c.args.steps (omega arith)
+
+pub overflow_mul-rest : goal.overflow_mul-rest
+overflow_mul-rest c = omega (arith, small c)
+
+pub overflow_add-rest : goal.overflow_add-rest
+overflow_add-rest c = omega (arith, small c)
+
+pub overflow_mul-left : goal.overflow_mul-left
+overflow_mul-left c = omega arith
+
+pub overflow_mul-trial : goal.overflow_mul-trial
+overflow_mul-trial c = omega (arith, small c)
+
+pub overflow_add-trial : goal.overflow_add-trial
+overflow_add-trial c = omega (arith, small c)
+
+pub overflow_mul-root : goal.overflow_mul-root
+overflow_mul-root c = omega (arith, small c)
+
+pub overflow_add-root : goal.overflow_add-root
+overflow_add-root c = omega (arith, small c)
+
+pub overflow_add-i : goal.overflow_add-i
+overflow_add-i c = let p = c.requires in let t = c.loop-i-test.true in omega arith
+
+pub loop-i-smaller : goal.loop-i-smaller
+loop-i-smaller c = let t = c.loop-i-test.true in omega arith
+
+pub loop-i-preserved : goal.loop-i-preserved
+loop-i-preserved c =
+    let d = c.loop-i.invariant in
+    let m = c.loop-i-test.true in
+    ⊎_elim (λ w. rw (w.1, w.2) (step_one d m w.0.taken)) (λ w. rw (w.1, w.2) (step_zero d m w.0.left)) c.if-trial-rest.branch
+
+pub returns : goal.returns
+returns c =
+    let d = c.loop-i.invariant in
+    let e : c.loop-i.i ≡ c.args.steps = le_antisymm d.upto c.loop-i-test.false in
+    record {
+      square = d.square ∙ ap (λ (i : ℕ). c.args.a * 4 ^ i / 2 ^ 64) e;
+      left = d.within;
+      short = subst (λ (i : ℕ). c.loop-i.root < 2 ^ i) e d.short;
+    }

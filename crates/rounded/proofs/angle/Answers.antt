@@ -1,0 +1,8 @@
+-- `rounded::angle` meets its contract. Assumes nothing.
+use Rattle.rounded.specs.Turning.{angle_of}
+use borrow.Author.Rules.{rules}
+use Rattle.rounded.proofs.angle.Goals as goal
+
+pub returns : goal.returns
+unfolding angle_of
+returns c = rw (← c.atan2.ensures)

@@ -1,0 +1,6 @@
+-- `scissor::MaybeBoth::answer` meets its contract. Assumes nothing.
+use borrow.Author.Rules.{rules}
+use Rattle.scissor.proofs.MaybeBoth.answer.Goals as goal
+
+pub returns : goal.returns
+returns c = rw c.in-Both.is

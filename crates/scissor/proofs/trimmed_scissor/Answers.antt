@@ -1,0 +1,15 @@
+-- `scissor::trimmed_scissor` meets its contract. Assumes nothing.
+use borrow.Author.Rules.{rules}
+use Rattle.scissor.proofs.trimmed_scissor.Goals as goal
+
+pub returns-in-Refused : goal.returns-in-Refused
+returns-in-Refused c = rw (← c.pair_fringe_check.ensures, c.in-Refused.is)
+
+pub returns : goal.returns
+returns c =
+    rw (
+      ← c.pair_fringe_check.ensures,
+      c.in_default.is,
+      ← c.trimmed_scissor_unchecked.ensures,
+      ← c.answer.ensures,
+    )

@@ -1,0 +1,9 @@
+-- `shape::MaybeBox::answer` meets its contract. Assumes nothing.
+use borrow.Author.Rules.{rules}
+use Rattle.shape.proofs.MaybeBox.answer.Goals as goal
+
+pub returns-in_default : goal.returns-in_default
+returns-in_default c = rw c.in_default.is
+
+pub returns : goal.returns
+returns c = rw c.in-Box.is

@@ -1,0 +1,9 @@
+-- `shape::RoundedBox::bounds` meets its contract. Assumes nothing.
+use borrow.Author.Rules.{rules}
+use Rattle.shape.proofs.RoundedBox.bounds.Goals as goal
+
+pub returns-in-Refused : goal.returns-in-Refused
+returns-in-Refused c = rw (← c.check.ensures, c.in-Refused.is)
+
+pub returns : goal.returns
+returns c = rw (← c.check.ensures, c.in_default.is, c.bounds_unchecked.ensures)

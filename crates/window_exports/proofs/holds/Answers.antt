@@ -1,0 +1,14 @@
+-- `window_exports::holds` meets its contract. Assumes nothing.
+use borrow.Author.Rules.{rules}
+use borrow.Author.Tests.{lt-ltb, le-ltb}
+use mathlib.Core.Logic.{⊎_elim}
+use mathlib.Core.Path.{refl}
+use Rattle.window_exports.proofs.holds.Goals as goal
+
+pub returns-then-k-lt-COVERAGE : goal.returns-then-k-lt-COVERAGE
+returns-then-k-lt-COVERAGE c = ⊎_elim (λ w. rw (lt-ltb _ _ w.taken) refl) (λ w. rw (le-ltb _ _ w.0.left, w.1.taken) refl) c.then-k-lt-COVERAGE.branch
+
+pub returns : goal.returns
+returns c =
+    rw (le-ltb _ _ c.if-k-lt-COVERAGE.false, c.if-bounds-lt-BOUNDS.false)
+    (rw (c.holds-held.ensures, c.coverage_in.ensures, c.bounds_in.ensures) at c.test_number.ensures)

@@ -1,0 +1,14 @@
+-- `window_exports::reach` meets its contract. Assumes nothing.
+use borrow.Author.Rules.{rules}
+use borrow.Author.Tests.{lt-ltb, le-ltb}
+use mathlib.Core.Logic.{⊎_elim}
+use mathlib.Core.Path.{refl}
+use Rattle.window_exports.proofs.reach.Goals as goal
+
+pub returns-then-k-lt-COVERAGE : goal.returns-then-k-lt-COVERAGE
+returns-then-k-lt-COVERAGE c = ⊎_elim (λ w. rw (lt-ltb _ _ w.taken) (refl, refl)) (λ w. rw (le-ltb _ _ w.0.left, w.1.taken) (refl, refl)) c.then-k-lt-COVERAGE.branch
+
+pub returns : goal.returns
+returns c =
+    rw (le-ltb _ _ c.if-k-lt-COVERAGE.false, c.if-out-lt-BOUNDS.false)
+    (rw (c.reach.ensures, c.coverage_in.ensures) at c.hand_reach.ensures)

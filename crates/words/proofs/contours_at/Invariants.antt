@@ -1,0 +1,12 @@
+-- `words::contours_at` meets its contract. Assumes nothing.
+use borrow.Author.Rules.{rules}
+use mathlib.Core.Path.{refl}
+use Prim.Native.Nat.{◌-◌}
+use Rattle.words.proofs.Steps.{ContoursAt, contours_stop, contours_more, contours_end}
+use Rattle.words.proofs.contours_at.Given as goal
+
+abbrev pub invariant-loop-remaining : goal.invariant-loop-remaining
+invariant-loop-remaining l = ContoursAt l.words l.from l.n l.before l.at l.points l.remaining
+
+abbrev pub decreases-loop-remaining : goal.decreases-loop-remaining
+decreases-loop-remaining l = l.remaining
