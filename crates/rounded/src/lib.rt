@@ -92,6 +92,7 @@ pub struct Met {
 }
 
 // Whether a point is past the straight sides of a round corner.
+#[tactic(auto, unfolding(crate::specs::OnBox::at_corner_of))]
 fn at_corner(r: Radii, corner: Position) -> bool
     ensures { result ≡ at_corner_of r corner }
 {
