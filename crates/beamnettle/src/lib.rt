@@ -310,8 +310,7 @@ pub extern "C" fn beamnettle_holds(k: &[f32], bounds: &[f32]) -> u8
     window_exports::holds(k, bounds)
 }
 
-// ---- lists of boxes. Proved by hand, as `touch::touch` and `inside::all_inside` are: the borrow checker
-// covers no function with a slice of structs
+// ---- lists of boxes
 
 #[unsafe(no_mangle)]
 pub extern "C" fn beamnettle_touch(boxes: &[RoundedBox], fringe: f32, x: f32, y: f32) -> u32

@@ -1,5 +1,5 @@
 -- The operators of Rust's `f32` as infix, for the definitions of the crates above, and the constants that they share.
--- `lib.Ieee` says what they mean. Definitions only.
+-- `Rattle.std.specs.Float.Ieee` says what they mean. Definitions only.
 use Rattle.std.specs.Prelude.{from_bits, Float}
 use Rattle.std.specs.Float.{binary32}
 use Rattle.std.specs.Float.Ieee.{add, sub, mul, div, neg}

@@ -1,5 +1,5 @@
 // Float helpers that the language lacks. Each contract gives the result outright, for every
-// argument, as a definition of specs/ over the logic's account of IEEE 754 (lib.Ieee).
+// argument, as a definition of specs/ over the logic's account of IEEE 754 (Rattle.std.specs.Float.Ieee).
 #![tactic(auto)]
 
 ghost use Rattle.std.specs.Prelude.{◌≡◌, ◌^◌, ◌<◌, ◌≤◌, min as smallerOf, false, T, ◌⊎◌};

@@ -22,7 +22,7 @@ unfolding root_below size
 whole_root n = root_below (size n) n
 
 -- The value of the format f that is nearest to the root of num / den, IEEE 754's roundTiesToEven, for a den above 0:
--- what `lib.Ieee.round` is, of a root. In units of f's smallest value the root's square is n / den. Of the root's
+-- what `Rattle.std.specs.Float.Ieee.round` is, of a root. In units of f's smallest value the root's square is n / den. Of the root's
 -- whole part the format keeps the `prec` leading digits and drops k. The root, in steps of 2 ^ k units, has the whole
 -- part q, and is compared with q + 1/2: four times its square with the square of 2 * q + 1.
 unfoldable pub round_root : Format → ℕ → ℕ → Float

@@ -1,5 +1,5 @@
 -- Floats and whole numbers: floor, ceiling and the casts. A finite value `fin s m e` is m * up e / down e, negative
--- where s is true. `lib.Ieee.round f s a b` is the value of the format f that is nearest to a / b with the sign s,
+-- where s is true. `Rattle.std.specs.Float.Ieee.round f s a b` is the value of the format f that is nearest to a / b with the sign s,
 -- ties to even. Definitions only.
 use Rattle.std.specs.Prelude.{ℕ, ◌+◌, ◌*◌, ◌/◌, ◌%◌, Bool, true, false, cond, eqb, pos}
 use lib.Ieee.{Float, nan, inf, fin, binary32, up, down, unlike, round, of_int, to_unsigned}

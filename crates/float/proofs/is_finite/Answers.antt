@@ -1,5 +1,4 @@
 -- `float::is_finite` meets its contract, by the laws of proofs/Simple.antt. Assumes nothing.
-use Rattle.std.proofs.Common.{rules}
 use Rattle.float.proofs.Simple.{finite_both, finite_not}
 use Rattle.float.proofs.is_finite.Goals as goal
 

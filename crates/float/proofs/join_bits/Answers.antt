@@ -1,5 +1,5 @@
 -- `float::join_bits` meets its contract. Assumes nothing.
-use Rattle.std.proofs.Common.{sym, ◌∙◌, zero-add, rules}
+use Rattle.std.proofs.Common.{sym, ◌∙◌, zero-add}
 use Rattle.float.proofs.join_bits.Goals as goal
 
 pub returns-then-negative : goal.returns-then-negative

@@ -1,7 +1,7 @@
 -- `float::pack32` meets its contract, by the laws of proofs/Pattern.antt over the width. Assumes nothing.
 use Rattle.float.proofs.Pattern.{packed, packed_no_nan, pattern_lt}
 use lib.Ieee.{binary32}
-use Rattle.std.proofs.Common.{lit<, rules}
+use Rattle.std.proofs.Common.{lit<}
 use Rattle.float.proofs.pack32.Goals as goal
 
 pub overflow_cast-result : goal.overflow_cast-result

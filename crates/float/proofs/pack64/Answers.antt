@@ -1,7 +1,6 @@
 -- `float::pack64` meets its contract, by the laws of proofs/Pattern.antt over the width. Assumes nothing.
 use Rattle.float.proofs.Pattern.{packed, packed_no_nan}
 use lib.Ieee.{binary64}
-use Rattle.std.proofs.Common.{rules}
 use Rattle.float.proofs.pack64.Goals as goal
 
 pub float_from_bits-result : goal.float_from_bits-result

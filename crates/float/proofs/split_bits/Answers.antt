@@ -1,5 +1,5 @@
 -- `float::split_bits` meets its contract: the two cases of the exponent's field. Assumes nothing.
-use Rattle.std.proofs.Common.{ℕ, ◌-◌, sym, refl, ap, add-zero, mod-lt, arith, rules, eq-eqb, ne_eqb}
+use Rattle.std.proofs.Common.{ℕ, ◌-◌, sym, refl, ap, add-zero, mod-lt, arith, eq-eqb, ne_eqb}
 use Rattle.float.proofs.split_bits.Goals as goal
 
 pub returns-then-field-eq0 : goal.returns-then-field-eq0

@@ -3,7 +3,7 @@ use Rattle.float.proofs.Fields.{apart, number_no_nan}
 use Rattle.float.proofs.Tests.{holds}
 use lib.Ieee.Bits.{to_bits-lt}
 use lib.Ieee.{binary32}
-use Rattle.std.proofs.Common.{arith, rules}
+use Rattle.std.proofs.Common.{arith}
 use Rattle.float.proofs.unpack32.Goals as goal
 
 pub float_to_bits-x : goal.float_to_bits-x

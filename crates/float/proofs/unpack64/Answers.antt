@@ -2,7 +2,6 @@
 use Rattle.float.proofs.Fields.{apart, number_no_nan}
 use Rattle.float.proofs.Tests.{holds}
 use lib.Ieee.{binary64}
-use Rattle.std.proofs.Common.{rules}
 use Rattle.float.proofs.unpack64.Goals as goal
 
 pub float_to_bits-x : goal.float_to_bits-x

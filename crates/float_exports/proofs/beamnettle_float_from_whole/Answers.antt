@@ -2,7 +2,6 @@
 use Prim.Native.Nat.{◌^◌, min}
 use mathlib.Core.Path.{◌≡◌, ap, ◌∙◌}
 use native.Mathlib.Omega.{arith}
-use borrow.Author.Rules.{rules}
 use Rattle.whole.specs.Whole.{of_whole}
 use Rattle.float_exports.proofs.beamnettle_float_from_whole.Goals as goal
 

@@ -6,7 +6,6 @@ use Prim.Native.Nat.{ℕ, ◌*◌, ◌^◌, ◌<◌}
 use native.Mathlib.Omega.{arith}
 use Rattle.nearest_roots.specs.Guess.{Guessed}
 use Rattle.nearest_roots.proofs.Guessing.{bits_no_nan}
-use borrow.Author.Rules.{rules}
 use Rattle.nearest_roots.proofs.checked_root.Goals as goal
 
 in_range : {p : ℕ} → (p ≡ 0 → ⊥) → Guessed p → (2 ^ 23 < p) × (p < 255 * 2 ^ 23)

@@ -1,15 +1,11 @@
 -- `roots::guess` meets its contract: each float whose bits are asked for, or that is made of bits, is no NaN, and the
 -- pattern is in range. Assumes nothing.
-use borrow.Author.Tests.{ltb-true}
 use lib.Ieee.{binary64}
 use mathlib.Core.Logic.{inl, inr}
-use mathlib.Core.Bool.{true}
-use mathlib.Core.Path.{◌≡◌, refl}
+use mathlib.Core.Path.{refl}
 use Prim.Native.Nat.{ℕ, ◌-◌, ◌*◌, ◌^◌, ◌<◌}
-use lib.Dec.{ltb}
 use native.Mathlib.Omega.{arith}
 use Rattle.nearest_roots.proofs.Guessing.{above_no_nan, bits_no_nan}
-use borrow.Author.Rules.{rules}
 use Rattle.nearest_roots.proofs.guess.Goals as goal
 
 below_top : (n : ℕ) → n < 0x2_3f80_0000 → n - 0x1_c000_0000 < 255 * 2 ^ 23

@@ -1,6 +1,5 @@
 -- `roots::hypot_by_digits` meets its contract: the parts of x and y, and the root of their squares. Assumes nothing.
 use Rattle.nearest_roots.proofs.Guessing.{digits_of, hypot_of_lem}
-use borrow.Author.Rules.{rules}
 use Rattle.nearest_roots.proofs.hypot_by_digits.Goals as goal
 
 pub root_of_squares-requires : goal.root_of_squares-requires

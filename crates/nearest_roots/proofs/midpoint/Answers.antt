@@ -2,7 +2,6 @@
 use lib.Ieee.{binary64}
 use native.Mathlib.Omega.{arith}
 use Rattle.nearest_roots.proofs.Guessing.{bits_no_nan}
-use borrow.Author.Rules.{rules}
 use Rattle.nearest_roots.proofs.midpoint.Goals as goal
 
 pub float_from_bits-result : goal.float_from_bits-result

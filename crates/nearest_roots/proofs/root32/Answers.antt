@@ -2,7 +2,6 @@
 use lib.Ieee.{of_bits}
 use Rattle.float.proofs.Tests.{holds}
 use Rattle.nearest_roots.proofs.Guessing.{was_held, root_held}
-use borrow.Author.Rules.{rules}
 use Rattle.nearest_roots.proofs.root32.Goals as goal
 
 pub returns-then-root : goal.returns-then-root

@@ -1,7 +1,6 @@
 -- `root_digits::extend_root` meets its contract: proofs/RootExtend.antt. Assumes nothing.
 use native.Mathlib.Omega.{arith}
 use Rattle.root_digits.proofs.RootExtend.{sizes, found, some_digit, one_too_many}
-use borrow.Author.Rules.{rules}
 use Rattle.root_digits.proofs.extend_root.Goals as goal
 
 pub overflow_mul-left : goal.overflow_mul-left

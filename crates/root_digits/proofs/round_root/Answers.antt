@@ -1,6 +1,5 @@
 -- `root_digits::round_root` meets its contract, by the laws of proofs/Halves.antt. Assumes nothing.
 use Rattle.root_digits.proofs.Halves.{rounded_even, rounded_tie, rounded_up}
-use borrow.Author.Rules.{rules}
 use Rattle.root_digits.proofs.round_root.Goals as goal
 
 pub returns-then-root-eq0 : goal.returns-then-root-eq0

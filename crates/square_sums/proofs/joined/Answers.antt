@@ -1,11 +1,9 @@
 -- `square_sums::joined` meets its contract, by the laws of proofs/Sums.antt. Assumes nothing.
-use Prim.Native.Nat.{ℕ, ◌*◌, ◌^◌, ◌%◌, ◌<◌, ◌≤◌, ◌-◌}
-use mathlib.Core.Path.{◌≡◌}
+use Prim.Native.Nat.{ℕ, ◌*◌, ◌^◌, ◌<◌, ◌≤◌, ◌-◌}
 use native.Mathlib.Nat.{mul-le-mul}
 use native.Mathlib.Omega.{arith}
 use lib.Pow.{pow_pos}
 use Rattle.square_sums.proofs.Sums.{unit_is, sum_small, lost_small, full_sum, joined_is}
-use borrow.Author.Rules.{rules}
 use Rattle.square_sums.proofs.joined.Goals as goal
 
 four_squares : (b : ℕ) → b < 2 ^ 24 → 4 * b * b < 2 ^ 50

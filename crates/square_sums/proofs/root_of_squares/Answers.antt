@@ -3,7 +3,6 @@ use mathlib.Core.Path.{subst}
 use native.Mathlib.Nat.{add_comm}
 use Prim.Native.Nat.{ℕ}
 use Rattle.square_sums.specs.Squares.{RootOfSquares}
-use borrow.Author.Rules.{rules}
 use Rattle.square_sums.proofs.root_of_squares.Goals as goal
 
 pub returns-then-e-f : goal.returns-then-e-f

@@ -5,7 +5,6 @@ use native.Mathlib.Omega.{arith}
 use Rattle.root_digits.proofs.Halves.{rounded_le}
 use Rattle.square_sums.specs.Squares.{RootOfSum}
 use Rattle.square_sums.proofs.Sums.{few_digits, in_fours}
-use borrow.Author.Rules.{rules}
 use Rattle.square_sums.proofs.root_of_sum.Goals as goal
 
 pub pack32-requires : goal.pack32-requires

@@ -4,7 +4,6 @@ use mathlib.Core.Path.{refl}
 use native.Mathlib.Omega.{arith}
 use Rattle.root_digits.proofs.Halves.{rounded_le, rounded_ge}
 use Rattle.square_sums.proofs.Sums.{full_root, all_digits}
-use borrow.Author.Rules.{rules}
 use Rattle.square_sums.proofs.rounded.Goals as goal
 
 pub root_digits-r-requires : goal.root_digits-r-requires

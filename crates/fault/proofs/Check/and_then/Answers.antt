@@ -1,5 +1,4 @@
 -- `fault::Check::and_then` meets its contract. Assumes nothing.
-use borrow.Author.Rules.{rules}
 use Rattle.fault.proofs.Check.and_then.Goals as goal
 
 pub returns-in-Refused : goal.returns-in-Refused
