@@ -3,7 +3,6 @@ use Rattle.narrowing.proofs.Narrowing.{of_nan, of_inf, left_over}
 use lib.Ieee.{div, of_bits, neg}
 use mathlib.Core.Bool.{true, false}
 use mathlib.Core.Path.{◌∙◌, ap}
-use borrow.Author.Rules.{rules}
 use Rattle.narrowing.proofs.narrow.Goals as goal
 
 pub returns-then-x : goal.returns-then-x

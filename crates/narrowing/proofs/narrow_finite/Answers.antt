@@ -1,5 +1,5 @@
 -- `narrowing::narrow_finite` meets its contract, by the laws of proofs/Narrowing.antt. Assumes nothing.
-use Prim.Native.Nat.{ℕ, ◌-◌, ◌<◌, ◌≤◌}
+use Prim.Native.Nat.{ℕ, ◌-◌}
 use Rattle.narrowing.proofs.Narrowing.{normal_le, normal_ge, normal, short_le, short, none}
 use Rattle.float.proofs.Shift.{one_shl}
 use lib.Dec.{lit<, lit≤}
@@ -9,7 +9,6 @@ use lib.Pow.{pow_pos}
 use mathlib.Core.Logic.{inl, inr}
 use mathlib.Core.Path.{refl, ap, ◌∙◌}
 use native.Mathlib.Omega.{arith}
-use borrow.Author.Rules.{rules}
 use Rattle.narrowing.proofs.narrow_finite.Goals as goal
 
 pub nearest_div-q-requires : goal.nearest_div-q-requires

@@ -2,7 +2,6 @@
 use Rattle.float.proofs.Shift.{closest_down, closest_up, closest_tie}
 use native.Mathlib.Nat.{le_of_lt, mod-lt, div-le_self}
 use native.Mathlib.Omega.{arith}
-use borrow.Author.Rules.{rules}
 use Rattle.narrowing.proofs.nearest_div.Goals as goal
 
 pub overflow_sub-lacks : goal.overflow_sub-lacks

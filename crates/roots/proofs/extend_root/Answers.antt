@@ -1,7 +1,6 @@
 -- `roots::extend_root` meets its contract: proofs/RootExtend.antt. Assumes nothing.
 use native.Mathlib.Omega.{arith}
 use Rattle.roots.proofs.RootExtend.{sizes, found, some_digit, one_too_many}
-use borrow.Author.Rules.{rules}
 use Rattle.roots.proofs.extend_root.Goals as goal
 
 pub overflow_mul-left : goal.overflow_mul-left

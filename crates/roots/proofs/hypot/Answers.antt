@@ -1,6 +1,5 @@
 -- `roots::hypot` meets its contract: the callees' contracts, one after another. Assumes nothing.
 use Rattle.roots.specs.Root.{hypot_of}
-use borrow.Author.Rules.{rules}
 use Rattle.roots.proofs.hypot.Goals as goal
 
 pub returns : goal.returns

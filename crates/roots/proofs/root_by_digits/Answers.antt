@@ -1,6 +1,6 @@
 -- `roots::root_by_digits` meets its contract: proofs/RootLoop.antt has the invariant and shows that a turn keeps it.
 -- Assumes nothing.
-use Prim.Native.Nat.{ℕ, ◌*◌, ◌/◌, ◌^◌, ◌-◌, ◌≤◌, ◌<◌}
+use Prim.Native.Nat.{ℕ, ◌*◌, ◌/◌, ◌^◌, ◌≤◌, ◌<◌}
 use Rattle.roots.proofs.RootLoop.{Digits, start, pair_lt, root_fits, step_one, step_zero}
 use mathlib.Core.Path.{◌≡◌, ap, ◌∙◌, subst}
 use native.Mathlib.Nat.{le_antisymm}
@@ -48,8 +48,8 @@ loop-i-preserved c =
     let d = c.loop-i.invariant in
     let m = c.loop-i-test.true in
     elim c.if-trial-rest.branch [
-      then-trial-rest w ↦ rw (w.root-is, w.rest-is) (step_one d m w.if-trial-rest.true)
-    | else-trial-rest w ↦ rw (w.root-is, w.rest-is) (step_zero d m w.if-trial-rest.false)
+      | then-trial-rest w ↦ rw (w.root-is, w.rest-is) (step_one d m w.if-trial-rest.true)
+      | else-trial-rest w ↦ rw (w.root-is, w.rest-is) (step_zero d m w.if-trial-rest.false)
     ]
 
 pub returns : goal.returns

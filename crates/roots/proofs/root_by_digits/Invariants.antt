@@ -1,11 +1,7 @@
 -- `roots::root_by_digits` meets its contract: proofs/RootLoop.antt has the invariant and shows that a turn keeps it.
 -- Assumes nothing.
-use Prim.Native.Nat.{ℕ, ◌*◌, ◌/◌, ◌^◌, ◌-◌, ◌≤◌, ◌<◌}
-use Rattle.roots.proofs.RootLoop.{Digits, start, pair_lt, root_fits, step_one, step_zero}
-use mathlib.Core.Logic.{⊎_elim}
-use mathlib.Core.Path.{◌≡◌, ap, ◌∙◌, subst}
-use native.Mathlib.Nat.{le_antisymm}
-use native.Mathlib.Omega.{arith}
+use Prim.Native.Nat.{◌-◌}
+use Rattle.roots.proofs.RootLoop.{Digits}
 use Rattle.roots.proofs.root_by_digits.Given as goal
 
 abbrev pub invariant-loop-i : goal.invariant-loop-i

@@ -4,7 +4,6 @@ use mathlib.Core.Path.{◌≡◌}
 use Prim.Native.Nat.{ℕ}
 use native.Mathlib.Omega.{arith}
 use Rattle.roots.proofs.RootExtend.{thirteen, twenty_five, fourteen, half, fifty_four}
-use borrow.Author.Rules.{rules}
 use Rattle.roots.proofs.root_digits.Goals as goal
 
 not_first : {steps : ℕ} → steps ≢ 25 → (steps ≡ 25) ⊎ (steps ≡ 54) → steps ≡ 54

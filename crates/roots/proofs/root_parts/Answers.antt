@@ -7,7 +7,6 @@ use lib.Dec.{lit≤}
 use lib.Pow.{pow_mono}
 use native.Mathlib.Nat.{lt_of_lt_of_le, le_trans}
 use native.Mathlib.Omega.{arith}
-use borrow.Author.Rules.{rules}
 use Rattle.roots.proofs.root_parts.Goals as goal
 
 keep_most : {keep : ℕ} → (keep ≡ 24) ⊎ (keep ≡ 53) → keep ≤ 53

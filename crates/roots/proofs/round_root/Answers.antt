@@ -1,6 +1,5 @@
 -- `roots::round_root` meets its contract, by the laws of proofs/Rooting.antt. Assumes nothing.
 use Rattle.roots.proofs.Rooting.{rounded_even, rounded_tie, rounded_up}
-use borrow.Author.Rules.{rules}
 use Rattle.roots.proofs.round_root.Goals as goal
 
 pub returns-then-root-eq0 : goal.returns-then-root-eq0

@@ -1,7 +1,6 @@
 -- `roots::sqrt` meets its contract, by the laws of proofs/Rooting.antt. Assumes nothing.
 use Rattle.roots.proofs.Rooting.{at_top, above, at_zero, no_root}
 use lib.Ieee.{binary32, of_bits, div}
-use borrow.Author.Rules.{rules}
 use Rattle.roots.proofs.sqrt.Goals as goal
 
 pub returns-then-x-infinity : goal.returns-then-x-infinity

@@ -1,7 +1,6 @@
 -- `roots::sqrt64` meets its contract, by the laws of proofs/Rooting.antt. Assumes nothing.
 use Rattle.roots.proofs.Rooting.{at_top, above, at_zero, no_root}
 use lib.Ieee.{binary64, of_bits, div}
-use borrow.Author.Rules.{rules}
 use Rattle.roots.proofs.sqrt64.Goals as goal
 
 pub returns-then-x-top : goal.returns-then-x-top

@@ -7,7 +7,6 @@ use lib.Pow.{pow_pos}
 use mathlib.Core.Path.{◌≡◌, ap, ◌∙◌}
 use native.Mathlib.Nat.{div-le_self}
 use native.Mathlib.Omega.{arith}
-use borrow.Author.Rules.{rules}
 use Rattle.whole.proofs.cut_whole.Goals as goal
 
 -- `1 << (149 - e)`

@@ -4,7 +4,6 @@ use lib.Dec.{T}
 use Prim.Native.Nat.{◌^◌}
 use lib.Ieee.{in_float}
 use borrow.Author.Tests.{le-leb}
-use borrow.Author.Rules.{rules}
 use Rattle.whole.proofs.from_whole.Goals as goal
 
 pub int_to_float-result : goal.int_to_float-result

@@ -4,7 +4,6 @@ use Rattle.whole.proofs.Whole.{integral_big, integral_is, integral_other}
 use Prim.Native.Nat.{ℕ}
 use lib.Ieee.{binary32, round}
 use mathlib.Core.Path.{sym, ap, ◌∙◌}
-use borrow.Author.Rules.{rules}
 use Rattle.whole.proofs.integral.Goals as goal
 
 pub unpack32-p-requires : goal.unpack32-p-requires

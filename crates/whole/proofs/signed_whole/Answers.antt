@@ -3,7 +3,6 @@ use Rattle.whole.proofs.Whole.{neg_round}
 use lib.Ieee.{binary32, neg, of_int}
 use mathlib.Core.Bool.{false}
 use mathlib.Core.Path.{ap, ◌∙◌}
-use borrow.Author.Rules.{rules}
 use Rattle.whole.proofs.signed_whole.Goals as goal
 
 pub returns-then-negative : goal.returns-then-negative

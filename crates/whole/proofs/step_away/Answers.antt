@@ -1,6 +1,5 @@
 -- `whole::step_away` meets its contract. Assumes nothing.
 use borrow.Author.Tests.{eq-eqb, ne_eqb}
-use borrow.Author.Rules.{rules}
 use Rattle.whole.proofs.step_away.Goals as goal
 
 pub returns-then-left-eq0 : goal.returns-then-left-eq0

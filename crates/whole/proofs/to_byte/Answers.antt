@@ -1,7 +1,6 @@
 -- `whole::to_byte` meets its contract: a byte is a column held at 255. Assumes nothing.
 use Rattle.whole.proofs.Cast.{cut_narrower}
 use native.Mathlib.Omega.{arith}
-use borrow.Author.Rules.{rules}
 use Rattle.whole.proofs.to_byte.Goals as goal
 
 pub returns-then-n-lt255 : goal.returns-then-n-lt255
