@@ -1,6 +1,6 @@
 -- The answer of `all_inside` read back, by what `coverage` and `contains` answer of each box as calls of their own
 -- (document 02, change 10: 'the layout tests them singly'). Proved in proofs/Laws.antt.
-use Rattle.std.specs.Prelude.{ℕ, zero, suc, ◌<◌, ◌≤◌, ◌≡◌, true, false, List, [], ◌∷◌, Float, length}
+use Rattle.std.specs.Prelude.{ℕ, zero, suc, ◌<◌, ◌≤◌, ◌≡◌, true, false, List, ◌∷◌, Float, length}
 use Rattle.fault.specs.declared.Fault.{Fault}
 use Rattle.fault.specs.declared.Fault.TheVariants.{TooManyBoxes}
 use Rattle.fault.specs.declared.Check.TheVariants as check

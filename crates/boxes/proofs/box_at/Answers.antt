@@ -1,5 +1,4 @@
 -- `boxes::box_at` meets its contract. Assumes nothing.
-use borrow.Author.Rules.{rules}
 use Rattle.boxes.proofs.box_at.Goals as goal
 
 pub returns : goal.returns

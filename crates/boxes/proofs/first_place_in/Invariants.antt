@@ -1,9 +1,7 @@
 -- `boxes::first_place_in` meets its contract: what is found so far, and the boxes that are left, give the answer.
 -- Assumes nothing.
 use Prim.Native.Nat.{◌-◌, ◌≤◌}
-use native.Mathlib.Omega.{arith}
-use Rattle.boxes.proofs.Walking.{tested_yes, tested_no}
-use Rattle.boxes.proofs.Lent.{FoundIn, begins_in, goes_on_in, ends_in}
+use Rattle.boxes.proofs.Lent.{FoundIn}
 use Rattle.boxes.proofs.first_place_in.Given as goal
 
 abbrev pub invariant-loop-ask : goal.invariant-loop-ask

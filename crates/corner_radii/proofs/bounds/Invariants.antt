@@ -1,9 +1,7 @@
 -- `corner_radii::bounds` meets its contract: the bounds of the points passed so far. Assumes nothing.
 use Prim.Native.Nat.{◌-◌}
-use mathlib.Core.Path.{ap, ◌∙◌}
-use borrow.Author.Rules.{rules}
 use Rattle.geometry.specs.Frame.{no_bounds, with_point_of}
-use Rattle.samples.proofs.Folds.{Folded, fold_begins, fold_goes, fold_ends}
+use Rattle.samples.proofs.Folds.{Folded}
 use Rattle.corner_radii.proofs.bounds.Given as goal
 
 abbrev pub invariant-loop-i : goal.invariant-loop-i

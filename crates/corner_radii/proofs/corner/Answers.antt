@@ -1,5 +1,4 @@
 -- `corner_radii::corner` meets its contract: along x the anchors' numbers are exchanged. Assumes nothing.
-use borrow.Author.Rules.{rules}
 use Rattle.samples.proofs.Folds.{fold_swapped}
 use Rattle.corner_radii.specs.declared.CornerAxis.{CornerAxis}
 use Rattle.corner_radii.specs.declared.Far.TheVariants as far

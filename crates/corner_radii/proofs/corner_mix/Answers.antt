@@ -1,5 +1,4 @@
 -- `corner_radii::corner_mix` meets its contract. Assumes nothing.
-use borrow.Author.Rules.{rules}
 use Rattle.corner_radii.specs.Mix.{corner_mix_of}
 use Rattle.corner_radii.proofs.corner_mix.Goals as goal
 

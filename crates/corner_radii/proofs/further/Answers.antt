@@ -1,6 +1,5 @@
 -- `corner_radii::further` meets its contract. Assumes nothing.
 use Rattle.corner_radii.specs.Radii.{further_of}
-use borrow.Author.Rules.{rules}
 use Rattle.corner_radii.proofs.further.Goals as goal
 
 pub returns-in-Reaches : goal.returns-in-Reaches

@@ -1,5 +1,4 @@
 -- `corner_radii::left` meets its contract. Assumes nothing.
-use borrow.Author.Rules.{rules}
 use Rattle.corner_radii.proofs.left.Goals as goal
 
 pub returns-in-Reaches : goal.returns-in-Reaches

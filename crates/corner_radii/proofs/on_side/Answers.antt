@@ -1,6 +1,5 @@
 -- `corner_radii::on_side` meets its contract. Assumes nothing.
 use Rattle.corner_radii.specs.Radii.{on_side_of}
-use borrow.Author.Rules.{rules}
 use Rattle.corner_radii.proofs.on_side.Goals as goal
 
 pub returns-then-abs-slack : goal.returns-then-abs-slack

@@ -1,6 +1,5 @@
 -- `corner_radii::radius` meets its contract. Assumes nothing.
 use Rattle.corner_radii.specs.Radii.{radius_of}
-use borrow.Author.Rules.{rules}
 use Rattle.corner_radii.proofs.radius.Goals as goal
 
 pub returns : goal.returns

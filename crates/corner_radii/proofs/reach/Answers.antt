@@ -1,9 +1,5 @@
 -- `corner_radii::reach` meets its contract: how far the side reaches by the anchors passed so far. Assumes nothing.
-use Prim.Native.Nat.{◌-◌}
-use borrow.Author.Rules.{rules}
-use Rattle.samples.proofs.Folds.{Folded, fold_begins, fold_goes, fold_ends}
-use Rattle.corner_radii.specs.declared.Far.TheVariants as fars
-use Rattle.corner_radii.specs.Radii.{reach_step_of}
+use Rattle.samples.proofs.Folds.{fold_begins, fold_goes, fold_ends}
 use Rattle.corner_radii.proofs.reach.Goals as goal
 
 pub loop-i-init : goal.loop-i-init

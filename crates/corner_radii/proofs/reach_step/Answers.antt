@@ -1,6 +1,5 @@
 -- `corner_radii::reach_step` meets its contract. Assumes nothing.
 use Rattle.corner_radii.specs.Radii.{reach_step_of}
-use borrow.Author.Rules.{rules}
 use Rattle.corner_radii.proofs.reach_step.Goals as goal
 
 pub returns-then-on_side : goal.returns-then-on_side

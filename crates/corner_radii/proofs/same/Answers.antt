@@ -1,6 +1,5 @@
 -- `corner_radii::same` meets its contract. Assumes nothing.
 use Rattle.corner_radii.specs.Mix.{same_of}
-use borrow.Author.Rules.{rules}
 use Rattle.corner_radii.proofs.same.Goals as goal
 
 pub returns-then-abs-slack : goal.returns-then-abs-slack

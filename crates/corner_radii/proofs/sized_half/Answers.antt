@@ -1,6 +1,5 @@
 -- `corner_radii::sized_half` meets its contract. Assumes nothing.
 use Rattle.corner_radii.specs.Around.{sized_half_of}
-use borrow.Author.Rules.{rules}
 use Rattle.corner_radii.proofs.sized_half.Goals as goal
 
 pub returns-then-half : goal.returns-then-half

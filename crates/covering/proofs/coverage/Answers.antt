@@ -1,5 +1,4 @@
 -- `covering::coverage` meets its contract. Assumes nothing.
-use borrow.Author.Rules.{rules}
 use Rattle.covering.proofs.coverage.Goals as goal
 
 pub returns-in-Refused : goal.returns-in-Refused

@@ -1,5 +1,4 @@
 -- `covering::touches` meets its contract. Assumes nothing.
-use borrow.Author.Rules.{rules}
 use Rattle.covering.proofs.touches.Goals as goal
 
 pub returns-in-Refused : goal.returns-in-Refused

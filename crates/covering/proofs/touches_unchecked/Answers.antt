@@ -1,6 +1,5 @@
 -- `covering::touches_unchecked` meets its contract. Assumes nothing.
 use Rattle.covering.specs.Touches.{touches_of}
-use borrow.Author.Rules.{rules}
 use Rattle.covering.proofs.touches_unchecked.Goals as goal
 
 pub returns-in_default : goal.returns-in_default

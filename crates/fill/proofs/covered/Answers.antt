@@ -1,6 +1,5 @@
 -- `fill::covered` meets its contract. Assumes nothing.
 use Rattle.fill.specs.Fill.{covered_of}
-use borrow.Author.Rules.{rules}
 use Rattle.fill.proofs.covered.Goals as goal
 
 pub returns-in_default : goal.returns-in_default

@@ -1,5 +1,4 @@
 -- `fill::rect_fill` meets its contract. Assumes nothing.
-use borrow.Author.Rules.{rules}
 use Rattle.fill.proofs.rect_fill.Goals as goal
 
 pub returns-in-Refused : goal.returns-in-Refused

@@ -1,6 +1,5 @@
 -- `fill::shared` meets its contract. Assumes nothing.
 use Rattle.fill.specs.Fill.{shared_of}
-use borrow.Author.Rules.{rules}
 use Rattle.fill.proofs.shared.Goals as goal
 
 pub returns-in_default : goal.returns-in_default

@@ -1,5 +1,4 @@
 -- `fit::box_alone` meets its contract. Assumes nothing.
-use borrow.Author.Rules.{rules}
 use Rattle.fit.proofs.box_alone.Goals as goal
 
 pub returns-in-Whole : goal.returns-in-Whole

@@ -1,7 +1,6 @@
 -- `fit::closed_count` meets its contract. Assumes nothing.
 use Rattle.fit.proofs.Closing.{count_back, count_on, room}
 use native.Mathlib.Omega.{arith}
-use borrow.Author.Rules.{rules}
 use Rattle.fit.proofs.closed_count.Goals as goal
 
 pub returns-then-same_place : goal.returns-then-same_place

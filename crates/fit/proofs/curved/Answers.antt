@@ -1,6 +1,5 @@
 -- `fit::curved` meets its contract: the closing line stands behind the segments. Assumes nothing.
 use native.Mathlib.Omega.{arith}
-use borrow.Author.Rules.{rules}
 use mathlib.Core.Path.{◌≡◌}
 use mathlib.Core.List.{List}
 use Rattle.outline.specs.declared.Piece.{Piece}

@@ -1,5 +1,4 @@
 -- `fit::cut_answer` meets its contract. Assumes nothing.
-use borrow.Author.Rules.{rules}
 use Rattle.fit.proofs.cut_answer.Goals as goal
 
 pub returns-in-Whole : goal.returns-in-Whole

@@ -1,5 +1,4 @@
 -- `fit::fit_unchecked` meets its contract. Assumes nothing.
-use borrow.Author.Rules.{rules}
 use Rattle.fit.specs.Fit.{fit_of}
 use Rattle.fit.proofs.fit_unchecked.Goals as goal
 

@@ -1,5 +1,4 @@
 -- `fit::outline_answer` meets its contract. Assumes nothing.
-use borrow.Author.Rules.{rules}
 use Rattle.fit.proofs.outline_answer.Goals as goal
 
 pub returns-in-Whole : goal.returns-in-Whole

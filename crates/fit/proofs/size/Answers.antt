@@ -1,7 +1,5 @@
 -- `fit::size` meets its contract: the size of the points passed so far. Assumes nothing.
-use Prim.Native.Nat.{◌-◌}
-use borrow.Author.Rules.{rules}
-use Rattle.fit.proofs.Turning.{Sized, size_none, size_next, size_all}
+use Rattle.fit.proofs.Turning.{size_none, size_next, size_all}
 use native.Mathlib.Omega.{arith}
 use Rattle.fit.proofs.size.Goals as goal
 

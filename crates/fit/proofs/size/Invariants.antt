@@ -1,8 +1,6 @@
 -- `fit::size` meets its contract: the size of the points passed so far. Assumes nothing.
 use Prim.Native.Nat.{◌-◌}
-use borrow.Author.Rules.{rules}
-use Rattle.fit.proofs.Turning.{Sized, size_none, size_next, size_all}
-use native.Mathlib.Omega.{arith}
+use Rattle.fit.proofs.Turning.{Sized}
 use Rattle.fit.proofs.size.Given as goal
 
 abbrev pub invariant-loop-i : goal.invariant-loop-i

@@ -1,7 +1,5 @@
 -- `fit::turning_points` meets its contract: the turning points passed so far are stored. Assumes nothing.
-use Prim.Native.Nat.{◌-◌}
-use borrow.Author.Rules.{rules}
-use Rattle.fit.proofs.Turning.{Cornered, corner_none, corner_next, corner_all}
+use Rattle.fit.proofs.Turning.{corner_none, corner_next, corner_all}
 use native.Mathlib.Omega.{arith}
 use Rattle.fit.proofs.turning_points.Goals as goal
 

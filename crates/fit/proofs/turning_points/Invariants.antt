@@ -1,8 +1,6 @@
 -- `fit::turning_points` meets its contract: the turning points passed so far are stored. Assumes nothing.
 use Prim.Native.Nat.{◌-◌}
-use borrow.Author.Rules.{rules}
-use Rattle.fit.proofs.Turning.{Cornered, corner_none, corner_next, corner_all}
-use native.Mathlib.Omega.{arith}
+use Rattle.fit.proofs.Turning.{Cornered}
 use Rattle.fit.proofs.turning_points.Given as goal
 
 abbrev pub invariant-loop-i : goal.invariant-loop-i

@@ -1,7 +1,6 @@
 -- `fit::turns_at` meets its contract: the three points are the outline's. Assumes nothing.
 use Rattle.fit.proofs.Turning.{before_lt, after_lt, turns_here}
 use native.Mathlib.Omega.{arith}
-use borrow.Author.Rules.{rules}
 use Rattle.fit.proofs.turns_at.Goals as goal
 
 pub point_at-a-requires : goal.point_at-a-requires

@@ -1,5 +1,4 @@
 -- `fit::whole` meets its contract. Assumes nothing.
-use borrow.Author.Rules.{rules}
 use Rattle.fit.proofs.whole.Goals as goal
 
 pub returns : goal.returns

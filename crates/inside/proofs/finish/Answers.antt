@@ -1,5 +1,4 @@
 -- `inside::finish` meets its contract. Assumes nothing.
-use borrow.Author.Rules.{rules}
 use Rattle.inside.proofs.finish.Goals as goal
 
 pub returns-in-Refused : goal.returns-in-Refused

@@ -1,5 +1,4 @@
 -- `inside::inside_floats` meets its contract. Assumes nothing.
-use borrow.Author.Rules.{rules}
 use Rattle.boxes.specs.Lent.{boxes_in}
 use Rattle.boxes.proofs.Finished.{place_fits}
 use Rattle.inside.proofs.Finished.{finishes}

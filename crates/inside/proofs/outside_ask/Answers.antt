@@ -1,5 +1,4 @@
 -- `inside::outside_ask` meets its contract. Assumes nothing.
-use borrow.Author.Rules.{rules}
 use Rattle.inside.proofs.outside_ask.Goals as goal
 
 pub returns-in-Coverage : goal.returns-in-Coverage

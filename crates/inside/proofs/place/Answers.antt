@@ -2,7 +2,6 @@
 use mathlib.Core.Path.{subst}
 use Prim.Native.Nat.{◌<◌}
 use native.Mathlib.Omega.{arith}
-use borrow.Author.Rules.{rules}
 use Rattle.boxes.specs.Checks.{most_boxes}
 use Rattle.boxes.specs.Walk.{PlaceFits}
 use Rattle.inside.proofs.place.Goals as goal

@@ -1,9 +1,8 @@
 -- `overlap::follows` meets its contract: every point passed so far is near. Assumes nothing.
 use Prim.Native.Nat.{◌-◌}
-use Rattle.shape.proofs.All.{Passed, none_yet, one_more, one_out, all_passed}
+use Rattle.shape.proofs.All.{Passed}
 use Rattle.shape.specs.Outline.{outline_point_of}
 use Rattle.overlap.specs.Overlap.{near_of}
-use native.Mathlib.Omega.{arith}
 use Rattle.overlap.proofs.follows.Given as goal
 
 abbrev pub invariant-loop-i : goal.invariant-loop-i

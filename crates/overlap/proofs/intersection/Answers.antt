@@ -1,5 +1,4 @@
 -- `overlap::intersection` meets its contract. Assumes nothing.
-use borrow.Author.Rules.{rules}
 use Rattle.overlap.proofs.intersection.Goals as goal
 
 pub returns-in-Refused : goal.returns-in-Refused

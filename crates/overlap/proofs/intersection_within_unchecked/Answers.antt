@@ -1,6 +1,5 @@
 -- `overlap::intersection_within_unchecked` meets its contract. Assumes nothing.
 use Rattle.overlap.specs.Overlap.{intersection_within_of}
-use borrow.Author.Rules.{rules}
 use Rattle.overlap.proofs.intersection_within_unchecked.Goals as goal
 
 pub returns-in_default : goal.returns-in_default

@@ -1,6 +1,5 @@
 -- `overlap::round_overlap` meets its contract. Assumes nothing.
 use Rattle.overlap.specs.Overlap.{round_overlap_of}
-use borrow.Author.Rules.{rules}
 use Rattle.overlap.proofs.round_overlap.Goals as goal
 
 pub returns-in_default : goal.returns-in_default

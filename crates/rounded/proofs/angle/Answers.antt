@@ -1,6 +1,5 @@
 -- `rounded::angle` meets its contract. Assumes nothing.
 use Rattle.rounded.specs.Turning.{angle_of}
-use borrow.Author.Rules.{rules}
 use Rattle.rounded.proofs.angle.Goals as goal
 
 pub returns : goal.returns

@@ -1,5 +1,4 @@
 -- `rounded::box_of` meets its contract. Assumes nothing.
-use borrow.Author.Rules.{rules}
 use Rattle.rounded.proofs.box_of.Goals as goal
 
 pub returns : goal.returns

@@ -1,5 +1,4 @@
 -- `rounded::boxed` meets its contract, case by case of the mix. Assumes nothing.
-use borrow.Author.Rules.{rules}
 use Rattle.rounded.specs.Rounded.{boxed_of}
 use Rattle.rounded.proofs.boxed.Goals as goal
 

@@ -1,6 +1,5 @@
 -- `rounded::corner_met` meets its contract. Assumes nothing.
 use Rattle.rounded.specs.OnBox.{corner_met_of}
-use borrow.Author.Rules.{rules}
 use Rattle.rounded.proofs.corner_met.Goals as goal
 
 pub returns : goal.returns

@@ -1,6 +1,5 @@
 -- `rounded::meets` meets its contract. Assumes nothing.
 use Rattle.rounded.specs.OnBox.{met_of}
-use borrow.Author.Rules.{rules}
 use Rattle.rounded.proofs.meets.Goals as goal
 
 pub returns-then-at_corner : goal.returns-then-at_corner

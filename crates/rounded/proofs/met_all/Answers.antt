@@ -1,9 +1,7 @@
 -- `rounded::met_all` meets its contract: the points passed so far. Assumes nothing.
-use Prim.Native.Nat.{◌-◌}
 use mathlib.Core.Path.{ap, ◌∙◌}
-use borrow.Author.Rules.{rules}
-use Rattle.samples.proofs.Folds.{Folded, fold_begins, fold_goes, fold_ends}
-use Rattle.rounded.specs.OnBox.{met_step_of, none_met}
+use Rattle.samples.proofs.Folds.{fold_begins, fold_goes, fold_ends}
+use Rattle.rounded.specs.OnBox.{met_step_of}
 use Rattle.rounded.proofs.met_all.Goals as goal
 
 pub loop-i-init : goal.loop-i-init

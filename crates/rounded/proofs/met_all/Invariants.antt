@@ -1,8 +1,6 @@
 -- `rounded::met_all` meets its contract: the points passed so far. Assumes nothing.
 use Prim.Native.Nat.{◌-◌}
-use mathlib.Core.Path.{ap, ◌∙◌}
-use borrow.Author.Rules.{rules}
-use Rattle.samples.proofs.Folds.{Folded, fold_begins, fold_goes, fold_ends}
+use Rattle.samples.proofs.Folds.{Folded}
 use Rattle.rounded.specs.OnBox.{met_step_of, none_met}
 use Rattle.rounded.proofs.met_all.Given as goal
 

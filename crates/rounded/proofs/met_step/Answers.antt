@@ -1,6 +1,5 @@
 -- `rounded::met_step` meets its contract. Assumes nothing.
 use Rattle.rounded.specs.OnBox.{met_step_of}
-use borrow.Author.Rules.{rules}
 use Rattle.rounded.proofs.met_step.Goals as goal
 
 pub returns : goal.returns

@@ -1,6 +1,5 @@
 -- `rounded::once` meets its contract. Assumes nothing.
 use Rattle.rounded.specs.Turning.{once_of}
-use borrow.Author.Rules.{rules}
 use Rattle.rounded.proofs.once.Goals as goal
 
 pub returns-then-abs : goal.returns-then-abs

@@ -1,6 +1,5 @@
 -- `rounded::past` meets its contract. Assumes nothing.
 use Rattle.rounded.specs.Rounded.{past_of}
-use borrow.Author.Rules.{rules}
 use Rattle.rounded.proofs.past.Goals as goal
 
 pub returns : goal.returns

@@ -1,6 +1,5 @@
 -- `rounded::radii_at` meets its contract. Assumes nothing.
 use Rattle.rounded.specs.OnBox.{radii_at_of}
-use borrow.Author.Rules.{rules}
 use Rattle.rounded.proofs.radii_at.Goals as goal
 
 pub returns-then-beside : goal.returns-then-beside

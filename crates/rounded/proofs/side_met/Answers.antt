@@ -1,6 +1,5 @@
 -- `rounded::side_met` meets its contract. Assumes nothing.
 use Rattle.rounded.specs.OnBox.{side_met_of}
-use borrow.Author.Rules.{rules}
 use Rattle.rounded.proofs.side_met.Goals as goal
 
 pub returns : goal.returns

@@ -2,10 +2,8 @@
 use Prim.Native.Nat.{◌+◌, ◌-◌}
 use mathlib.Core.Path.{◌≡◌, ap, ◌∙◌}
 use native.Mathlib.Omega.{arith}
-use borrow.Author.Rules.{rules}
-use Rattle.outline.specs.Kept.{point_at}
-use Rattle.samples.proofs.Folds.{Paired, pairs_begin, pairs_go, pairs_end}
-use Rattle.rounded.specs.Turning.{angle_of, step_of, turned_by, no_turn}
+use Rattle.samples.proofs.Folds.{pairs_begin, pairs_go, pairs_end}
+use Rattle.rounded.specs.Turning.{angle_of}
 use Rattle.rounded.proofs.turned.Goals as goal
 
 pub loop-i-init : goal.loop-i-init

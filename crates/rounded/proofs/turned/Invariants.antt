@@ -1,10 +1,8 @@
 -- `rounded::turned` meets its contract: the turns passed so far, and the last angle. Assumes nothing.
-use Prim.Native.Nat.{◌+◌, ◌-◌}
-use mathlib.Core.Path.{◌≡◌, ap, ◌∙◌}
-use native.Mathlib.Omega.{arith}
-use borrow.Author.Rules.{rules}
+use Prim.Native.Nat.{◌-◌}
+use mathlib.Core.Path.{◌≡◌}
 use Rattle.outline.specs.Kept.{point_at}
-use Rattle.samples.proofs.Folds.{Paired, pairs_begin, pairs_go, pairs_end}
+use Rattle.samples.proofs.Folds.{Paired}
 use Rattle.rounded.specs.Turning.{angle_of, step_of, turned_by, no_turn}
 use Rattle.rounded.proofs.turned.Given as goal
 

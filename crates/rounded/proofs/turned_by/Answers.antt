@@ -1,6 +1,5 @@
 -- `rounded::turned_by` meets its contract. Assumes nothing.
 use Rattle.rounded.specs.Turning.{turned_by}
-use borrow.Author.Rules.{rules}
 use Rattle.rounded.proofs.turned_by.Goals as goal
 
 pub returns : goal.returns

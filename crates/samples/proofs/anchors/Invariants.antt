@@ -1,9 +1,7 @@
 -- `samples::anchors` meets its contract: the start and the ends of the segments passed so far are stored. Assumes
 -- nothing.
 use Prim.Native.Nat.{◌-◌}
-use borrow.Author.Rules.{rules}
-use lib.ListN.{length-set}
-use Rattle.samples.proofs.Outlining.{Anchoring, anchors_begin, anchors_go, anchors_end, first_is}
+use Rattle.samples.proofs.Outlining.{Anchoring}
 use Rattle.samples.proofs.anchors.Given as goal
 
 abbrev pub invariant-loop-i : goal.invariant-loop-i

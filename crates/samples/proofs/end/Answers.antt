@@ -1,5 +1,4 @@
 -- `samples::end` meets its contract, case by case of the segment. Assumes nothing.
-use borrow.Author.Rules.{rules}
 use Rattle.samples.proofs.end.Goals as goal
 
 pub returns-in-Line : goal.returns-in-Line

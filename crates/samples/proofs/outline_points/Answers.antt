@@ -1,7 +1,5 @@
 -- `samples::outline_points` meets its contract: the points of the segments passed so far are stored. Assumes nothing.
-use Prim.Native.Nat.{◌-◌}
-use borrow.Author.Rules.{rules}
-use Rattle.samples.proofs.Outlining.{Outlining, outline_begins, fits, outline_goes, outline_ends}
+use Rattle.samples.proofs.Outlining.{outline_begins, fits, outline_goes, outline_ends}
 use Rattle.samples.proofs.outline_points.Goals as goal
 
 pub loop-i-init : goal.loop-i-init

@@ -1,7 +1,6 @@
 -- `samples::outline_points` meets its contract: the points of the segments passed so far are stored. Assumes nothing.
 use Prim.Native.Nat.{◌-◌}
-use borrow.Author.Rules.{rules}
-use Rattle.samples.proofs.Outlining.{Outlining, outline_begins, fits, outline_goes, outline_ends}
+use Rattle.samples.proofs.Outlining.{Outlining}
 use Rattle.samples.proofs.outline_points.Given as goal
 
 abbrev pub invariant-loop-i : goal.invariant-loop-i

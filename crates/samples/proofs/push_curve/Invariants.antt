@@ -1,14 +1,9 @@
 -- `samples::push_curve` meets its contract: the samples passed so far, and at last the end behind them. Assumes nothing.
 use Prim.Native.Nat.{◌-◌, ◌+◌, ◌≤◌}
-use mathlib.Core.Path.{◌≡◌, refl}
-use mathlib.Core.List.{[], ◌∷◌, ◌++◌}
-use native.Mathlib.Nat.{le_antisymm}
-use native.Mathlib.Omega.{arith}
-use borrow.Author.Rules.{rules}
+use mathlib.Core.List.{◌++◌}
 use Rattle.outline.specs.Kept.{points_in}
 use Rattle.samples.specs.Kept.{Holds}
-use Rattle.samples.proofs.Holding.{holds_itself, holds_as, holds_then}
-use Rattle.samples.proofs.Outlining.{samples_below, samples_none, samples_next, samples_all}
+use Rattle.samples.proofs.Outlining.{samples_below}
 use Rattle.samples.proofs.push_curve.Given as goal
 
 abbrev pub invariant-loop-i : goal.invariant-loop-i

@@ -1,6 +1,5 @@
 -- `samples::push_line` meets its contract: the middle, and the end behind it. Assumes nothing.
 use mathlib.Core.List.{[], ◌∷◌, append_assoc}
-use borrow.Author.Rules.{rules}
 use native.Mathlib.Omega.{arith}
 use Rattle.outline.specs.Kept.{points_in}
 use Rattle.samples.proofs.Holding.{holds_as, holds_then}

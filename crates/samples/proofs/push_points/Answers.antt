@@ -1,6 +1,5 @@
 -- `samples::push_points` meets its contract, case by case of the segment. Assumes nothing.
 use native.Mathlib.Omega.{arith}
-use borrow.Author.Rules.{rules}
 use Rattle.samples.proofs.push_points.Goals as goal
 
 pub returns-in-Line : goal.returns-in-Line

@@ -1,5 +1,4 @@
 -- `samples::put` meets its contract. Assumes nothing.
-use borrow.Author.Rules.{rules}
 use Rattle.samples.proofs.Holding.{stored}
 use Rattle.samples.proofs.put.Goals as goal
 

@@ -1,5 +1,4 @@
 -- `samples::sample` meets its contract. Assumes nothing.
-use borrow.Author.Rules.{rules}
 use Rattle.samples.specs.Samples.{sample_of}
 use Rattle.samples.proofs.sample.Goals as goal
 

@@ -1,5 +1,4 @@
 -- `scissor::trimmed_scissor` meets its contract. Assumes nothing.
-use borrow.Author.Rules.{rules}
 use Rattle.scissor.proofs.trimmed_scissor.Goals as goal
 
 pub returns-in-Refused : goal.returns-in-Refused

@@ -1,6 +1,5 @@
 -- `scissor::with_scissor_unchecked` meets its contract. Assumes nothing.
 use Rattle.scissor.specs.Scissor.{with_scissor_of}
-use borrow.Author.Rules.{rules}
 use Rattle.scissor.proofs.with_scissor_unchecked.Goals as goal
 
 pub returns-in_default : goal.returns-in_default

@@ -1,5 +1,4 @@
 -- `sides::rect_intersection` meets its contract. Assumes nothing.
-use borrow.Author.Rules.{rules}
 use Rattle.sides.proofs.rect_intersection.Goals as goal
 
 pub returns-in-Refused : goal.returns-in-Refused

@@ -1,5 +1,4 @@
 -- `touch::touch_floats` meets its contract. Assumes nothing.
-use borrow.Author.Rules.{rules}
 use Rattle.boxes.specs.Lent.{boxes_in}
 use Rattle.touch.specs.Touch.{point_of}
 use Rattle.boxes.proofs.Finished.{place_fits}

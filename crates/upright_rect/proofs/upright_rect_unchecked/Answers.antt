@@ -1,6 +1,5 @@
 -- `upright_rect::upright_rect_unchecked` meets its contract. Assumes nothing.
 use Rattle.upright_rect.specs.UprightRect.{upright_rect_of}
-use borrow.Author.Rules.{rules}
 use borrow.Author.Tests.{le-leb, lt-leb}
 use Rattle.upright_rect.proofs.upright_rect_unchecked.Goals as goal
 

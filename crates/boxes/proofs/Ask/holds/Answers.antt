@@ -1,5 +1,4 @@
 -- `boxes::Ask::holds` meets its contract. Assumes nothing.
-use borrow.Author.Rules.{rules}
 use Rattle.boxes.proofs.Ask.holds.Goals as goal
 
 pub returns-in-Touch : goal.returns-in-Touch

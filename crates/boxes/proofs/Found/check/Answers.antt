@@ -1,5 +1,4 @@
 -- `boxes::Found::check` meets its contract. Assumes nothing.
-use borrow.Author.Rules.{rules}
 use Rattle.boxes.proofs.Found.check.Goals as goal
 
 pub returns-in-Refused : goal.returns-in-Refused

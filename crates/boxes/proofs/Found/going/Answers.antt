@@ -1,5 +1,4 @@
 -- `boxes::Found::going` meets its contract. Assumes nothing.
-use borrow.Author.Rules.{rules}
 use Rattle.boxes.proofs.Found.going.Goals as goal
 
 pub returns : goal.returns

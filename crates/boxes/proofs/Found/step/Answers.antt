@@ -1,5 +1,4 @@
 -- `boxes::Found::step` meets its contract. Assumes nothing.
-use borrow.Author.Rules.{rules}
 use Rattle.boxes.proofs.Found.step.Goals as goal
 
 pub returns-in-Refused : goal.returns-in-Refused

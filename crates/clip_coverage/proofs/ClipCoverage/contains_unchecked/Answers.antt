@@ -1,9 +1,6 @@
 -- `clip_coverage::ClipCoverage::contains_unchecked` meets its contract: every point passed so far is inside. Assumes
 -- nothing.
-use Prim.Native.Nat.{◌-◌}
-use Rattle.shape.proofs.All.{Passed, none_yet, one_more, one_out, all_passed}
-use Rattle.shape.specs.Outline.{outline_point_of}
-use Rattle.clip_coverage.specs.Distance.{holds_point_of}
+use Rattle.shape.proofs.All.{none_yet, one_more, one_out, all_passed}
 use native.Mathlib.Omega.{arith}
 use Rattle.clip_coverage.proofs.ClipCoverage.contains_unchecked.Goals as goal
 

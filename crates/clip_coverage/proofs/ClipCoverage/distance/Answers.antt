@@ -1,5 +1,4 @@
 -- `clip_coverage::ClipCoverage::distance` meets its contract. Assumes nothing.
-use borrow.Author.Rules.{rules}
 use Rattle.clip_coverage.proofs.ClipCoverage.distance.Goals as goal
 
 pub returns-in-Refused : goal.returns-in-Refused

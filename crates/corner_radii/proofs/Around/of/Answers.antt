@@ -1,6 +1,5 @@
 -- `corner_radii::Around::of` meets its contract. Assumes nothing.
 use Rattle.corner_radii.specs.Around.{around_of}
-use borrow.Author.Rules.{rules}
 use Rattle.corner_radii.proofs.Around.of.Goals as goal
 
 pub returns : goal.returns

@@ -1,6 +1,5 @@
 -- `corner_radii::Around::sized` meets its contract. Assumes nothing.
 use Rattle.corner_radii.specs.Around.{sized_of}
-use borrow.Author.Rules.{rules}
 use Rattle.corner_radii.proofs.Around.sized.Goals as goal
 
 pub returns-then-sized_half : goal.returns-then-sized_half

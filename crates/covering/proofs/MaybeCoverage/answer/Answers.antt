@@ -1,5 +1,4 @@
 -- `covering::MaybeCoverage::answer` meets its contract. Assumes nothing.
-use borrow.Author.Rules.{rules}
 use Rattle.covering.proofs.MaybeCoverage.answer.Goals as goal
 
 pub returns-in_default : goal.returns-in_default

@@ -1,5 +1,4 @@
 -- `fill::MaybeFill::answer` meets its contract. Assumes nothing.
-use borrow.Author.Rules.{rules}
 use Rattle.fill.proofs.MaybeFill.answer.Goals as goal
 
 pub returns : goal.returns

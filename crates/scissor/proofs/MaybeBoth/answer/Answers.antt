@@ -1,5 +1,4 @@
 -- `scissor::MaybeBoth::answer` meets its contract. Assumes nothing.
-use borrow.Author.Rules.{rules}
 use Rattle.scissor.proofs.MaybeBoth.answer.Goals as goal
 
 pub returns : goal.returns
