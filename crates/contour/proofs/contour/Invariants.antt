@@ -1,12 +1,8 @@
 -- `contour::contour` meets its contract: the walk around the contour. Assumes nothing.
-use mathlib.Core.Path.{◌≡◌, refl, ◌∙◌}
-use Prim.Native.Nat.{◌+◌, ◌-◌, ◌*◌, ◌<◌}
-use native.Mathlib.Omega.{arith}
+use mathlib.Core.Path.{◌≡◌}
+use Prim.Native.Nat.{◌+◌, ◌-◌, ◌*◌}
 use lib.ListN.{length}
-use Rattle.word_list.specs.Words.{read_points}
-use Rattle.edge.proofs.Pushing.{pushed_none}
-use Rattle.contour.specs.Contours.{contour_of}
-use Rattle.contour.proofs.Walking.{Walk, Inside, walk_start, walk_more, walk_end, walk_inside, last_there, points_read, positive}
+use Rattle.contour.proofs.Walking.{Walk}
 use Rattle.contour.proofs.contour.Given as goal
 
 abbrev pub invariant-loop-next : goal.invariant-loop-next

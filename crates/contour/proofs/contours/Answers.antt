@@ -1,9 +1,7 @@
 -- `contour::contours` meets its contract. Assumes nothing.
-use Prim.Native.Nat.{◌-◌}
 use native.Mathlib.Omega.{arith}
-use borrow.Author.Rules.{rules}
-use Rattle.words.proofs.Places.{ContourThere, contour_there, contour_counted}
-use Rattle.contour.proofs.Several.{Going, going_start, next_room, going_more, going_end}
+use Rattle.words.proofs.Places.{contour_there, contour_counted}
+use Rattle.contour.proofs.Several.{going_start, next_room, going_more, going_end}
 use Rattle.contour.proofs.contours.Goals as goal
 
 pub loop-remaining-init : goal.loop-remaining-init

@@ -1,7 +1,6 @@
 -- `edge::load` meets its contract. Assumes nothing.
 use mathlib.Core.Path.{refl}
 use Rattle.edge.specs.Floats.{edge_at}
-use borrow.Author.Rules.{rules}
 use Rattle.edge.proofs.load.Goals as goal
 
 pub returns : goal.returns

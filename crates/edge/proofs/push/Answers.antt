@@ -1,7 +1,6 @@
 -- `edge::push` meets its contract. Assumes nothing.
 use Rattle.edge.specs.Edges.{edge_between}
 use Rattle.edge.proofs.Pushing.{pushed_none}
-use borrow.Author.Rules.{rules}
 use Rattle.edge.proofs.push.Goals as goal
 
 pub returns-then-y0-y1 : goal.returns-then-y0-y1

@@ -2,7 +2,6 @@
 use native.Mathlib.Omega.{arith}
 use Rattle.edge.specs.Edges.{sloped_of}
 use Rattle.edge.proofs.Pushing.{pushed_none, pushed_one}
-use borrow.Author.Rules.{rules}
 use Rattle.edge.proofs.push_down.Goals as goal
 use Rattle.edge.proofs.push_down.Goals.{then-yb-via-then-yb, then-yb-via-else-yb+then-ya-from_whole}
 
@@ -10,8 +9,8 @@ pub returns-then-yb : goal.returns-then-yb
 unfolding sloped_of
 returns-then-yb c =
     elim c.then-yb.branch [
-      then-yb-via-then-yb w ↦ rw w.if-yb.true pushed_none
-    | then-yb-via-else-yb+then-ya-from_whole w ↦ rw (w.if-yb.false, ← w.from_whole.ensures, w.if-ya-from_whole.true) pushed_none
+      | then-yb-via-then-yb w ↦ rw w.if-yb.true pushed_none
+      | then-yb-via-else-yb+then-ya-from_whole w ↦ rw (w.if-yb.false, ← w.from_whole.ensures, w.if-ya-from_whole.true) pushed_none
     ]
 
 pub from_whole-requires : goal.from_whole-requires

@@ -1,7 +1,6 @@
 -- `edge::start_row` meets its contract. Assumes nothing.
 use mathlib.Core.Path.{ap, ◌∙◌}
 use Rattle.whole.specs.Whole.{column_of}
-use borrow.Author.Rules.{rules}
 use Rattle.edge.proofs.start_row.Goals as goal
 
 pub returns : goal.returns

@@ -3,7 +3,6 @@ use mathlib.Core.Path.{refl}
 use native.Mathlib.Omega.{arith}
 use lib.ListN.{length-set}
 use Rattle.edge.specs.Floats.{put_edge}
-use borrow.Author.Rules.{rules}
 use Rattle.edge.proofs.store.Goals as goal
 
 pub bounds-floats-at-2 : goal.bounds-floats-at-2

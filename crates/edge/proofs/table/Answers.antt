@@ -4,8 +4,7 @@ use mathlib.Core.Path.{◌≡◌, ap, ◌∙◌, subst}
 use native.Mathlib.Omega.{arith}
 use Rattle.edge.specs.Edges.{start_row}
 use Rattle.edge.specs.Table.{InTable}
-use Rattle.edge.proofs.Linking.{TableAt, TableRoom, table_start, table_room, table_link, table_turn}
-use borrow.Author.Rules.{rules}
+use Rattle.edge.proofs.Linking.{table_start, table_room, table_link, table_turn}
 use Rattle.edge.proofs.table.Goals as goal
 
 pub loop-i-init : goal.loop-i-init
@@ -23,7 +22,7 @@ load-e-requires c = let r = table_room c.requires.placed c.loop-i.invariant c.lo
 pub link-requires : goal.link-requires
 link-requires c =
     let linked = table_link c.requires.placed c.loop-i.invariant c.loop-i-test.true c.requires.by_index_2
-        (c.start_row.ensures ∙ ap start_row c.load-e.ensures) in
+    (c.start_row.ensures ∙ ap start_row c.load-e.ensures) in
     record { i_in_bounds = linked.0; row_bound = linked.1 }
 
 pub loop-i-preserved : goal.loop-i-preserved

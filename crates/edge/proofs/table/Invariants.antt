@@ -1,11 +1,6 @@
 -- `edge::table` meets its contract: from the last edge to the first, the edges behind are in the table. Assumes
 -- nothing.
-use mathlib.Core.Path.{◌≡◌, ap, ◌∙◌, subst}
-use native.Mathlib.Omega.{arith}
-use Rattle.edge.specs.Edges.{start_row}
-use Rattle.edge.specs.Table.{InTable}
-use Rattle.edge.proofs.Linking.{TableAt, TableRoom, table_start, table_room, table_link, table_turn}
-use borrow.Author.Rules.{rules}
+use Rattle.edge.proofs.Linking.{TableAt}
 use Rattle.edge.proofs.table.Given as goal
 
 abbrev pub invariant-loop-i : goal.invariant-loop-i
