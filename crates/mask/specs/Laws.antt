@@ -61,7 +61,7 @@ abbrev pub ListFaults : Type 0
 ListFaults = (words : List ℤ) (f : Fault) → read_words words ≡ fault f → (f ≡ ListEndsEarly) ⊎ ((f ≡ CountOutOfRange) ⊎ (f ≡ CoordinateOutOfRange))
 
 -- Whatever the mask held before, its cells are the same after a done drawing. (The answer and the cells do not read the
--- scratch: drawAnswer is given its length alone, and maskAfterDrawing nothing of it.)
+-- scratch: draw_answer is given its length alone, and mask_after_drawing nothing of it.)
 abbrev pub SameCells : Type 0
 SameCells = (d : Drawing) (mask other : List ℕ) → cells_of d.size ≤ length mask → cells_of d.size ≤ length other
     → take (cells_of d.size) (mask_after_drawing Done d mask) ≡ take (cells_of d.size) (mask_after_drawing Done d other)

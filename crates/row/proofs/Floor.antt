@@ -1,6 +1,6 @@
 -- Why the definitions may cut to columns where the Rust takes floor and ceiling: for a number from 0 on, other than
 -- -0, whose column is below 8,191, `x.floor()` is its column as a float, `x.floor() as usize` its column, and
--- `x.ceil() as usize` its ceilColumn. Assumes nothing.
+-- `x.ceil() as usize` its ceil_column. Assumes nothing.
 use mathlib.Core.Path.{◌≡◌, refl, sym, ap, ◌∙◌, subst}
 use mathlib.Core.Bool.{Bool, true, false, cond, ◌||◌, ◌&&◌, false≢true}
 use Prim.Native.Nat.{ℕ, zero, suc, ◌+◌, ◌*◌, ◌/◌, ◌%◌, ◌≤◌, ◌<◌}

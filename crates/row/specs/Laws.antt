@@ -9,7 +9,7 @@ use Rattle.accumulation.specs.Area.{Cells}
 use Rattle.row.specs.Row.{ceil_column, span_by}
 
 -- The Rust's `x.floor()` is x's column as a float, its `x.floor() as usize` is x's column, and its `x.ceil() as
--- usize` is `ceilColumn x`
+-- usize` is `ceil_column x`
 pub record Columns (x : Float) : Type 0 where
   pub floor : floor_of x ≡ of_whole (column_of x)
   pub floor_column : column_of (floor_of x) ≡ column_of x

@@ -54,7 +54,7 @@ pub record TwelveExactlyWhen : Type 0 where
   pub always : (bs : List RoundedBox) (fringe : Float) (p : Position) → 4096 < length bs → touch_call bs fringe p ≡ Refused TooManyBoxes
 
 -- ---- before document 02, change 7: number 12 was 'over 256 boxes in a touch list', and the place a byte. That call is
--- touchWithin 256
+-- touch_within 256
 
 pub record ShortListsAsBefore (bs : List RoundedBox) (fringe : Float) (p : Position) : Type 0 where
   -- 'Lists of 256 or fewer name the same places as before', and get 'no frame' and each refusal as before
