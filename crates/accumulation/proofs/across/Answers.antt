@@ -1,6 +1,5 @@
 -- `accumulation::across` meets its contract. Assumes nothing.
 use Rattle.accumulation.proofs.Adding.{across_is}
-use borrow.Author.Rules.{rules}
 use Rattle.accumulation.proofs.across.Goals as goal
 
 pub returns : goal.returns

@@ -3,7 +3,6 @@ use native.Mathlib.Omega.{arith}
 use lib.ListN.{length-set}
 use Rattle.accumulation.proofs.Marks.{ready_marked}
 use Rattle.accumulation.proofs.Adding.{add_in, add_none, add_out, set_apart}
-use borrow.Author.Rules.{rules}
 use Rattle.accumulation.proofs.add.Goals as goal
 use Rattle.accumulation.proofs.add.Goals.{else-cell-cells-via-then-cell-cells+else-area, else-cell-cells-via-else-cell-cells}
 
@@ -28,8 +27,8 @@ returns-else-cell-cells c =
     let args = c.args in
     record {
       cells_after = elim c.else-cell-cells.branch [
-          else-cell-cells-via-then-cell-cells+else-area w ↦ add_none args.cells.now args.cell args.area w.if-area.false
+        | else-cell-cells-via-then-cell-cells+else-area w ↦ add_none args.cells.now args.cell args.area w.if-area.false
         | else-cell-cells-via-else-cell-cells w ↦ add_out args.cells.now args.cell args.area w.if-cell-cells.false
-        ];
+      ];
       ready = c.requires;
     }

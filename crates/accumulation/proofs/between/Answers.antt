@@ -1,6 +1,5 @@
 -- `accumulation::between` meets its contract. Assumes nothing.
 use Rattle.accumulation.proofs.Adding.{between_one, between_more}
-use borrow.Author.Rules.{rules}
 use Rattle.accumulation.proofs.between.Goals as goal
 
 pub returns-then-last-cell : goal.returns-then-last-cell

@@ -6,7 +6,6 @@ use lib.ListN.{length, length-take, length-drop}
 use borrow.Rule.Slice.PartMut.{put_mid, same_len_mid}
 use Rattle.accumulation.proofs.Marks.{ready_marked}
 use Rattle.accumulation.proofs.Adding.{evenly_run, evenly_zero, evenly_beyond, part_apart}
-use borrow.Author.Rules.{rules}
 use Rattle.accumulation.proofs.evenly.Goals as goal
 
 pub returns-then-area : goal.returns-then-area

@@ -1,5 +1,4 @@
 -- `accumulation::mark` meets its contract: the two words that it stores are those of proofs/Marks.antt. Assumes nothing.
-use borrow.Author.Rules.{rules}
 use Rattle.accumulation.proofs.Marks.{marked_word}
 use Rattle.accumulation.proofs.mark.Goals as goal
 

@@ -2,10 +2,8 @@
 use mathlib.Core.Path.{◌≡◌, refl, ◌∙◌, subst}
 use Prim.Native.Nat.{◌+◌, ◌-◌}
 use native.Mathlib.Omega.{arith}
-use lib.ListN.{length}
 use Rattle.accumulation.specs.Marks.{Marked}
 use Rattle.accumulation.proofs.Marks.{marked_none, marked_more}
-use borrow.Author.Rules.{rules}
 use Rattle.accumulation.proofs.mark_run.Goals as goal
 
 pub loop-at-init : goal.loop-at-init

@@ -1,11 +1,8 @@
 -- `accumulation::mark_run` meets its contract: what was marked so far, and one word more. Assumes nothing.
-use mathlib.Core.Path.{◌≡◌, refl, ◌∙◌, subst}
-use Prim.Native.Nat.{◌+◌, ◌-◌}
-use native.Mathlib.Omega.{arith}
+use mathlib.Core.Path.{◌≡◌}
+use Prim.Native.Nat.{◌-◌}
 use lib.ListN.{length}
 use Rattle.accumulation.specs.Marks.{Marked}
-use Rattle.accumulation.proofs.Marks.{marked_none, marked_more}
-use borrow.Author.Rules.{rules}
 use Rattle.accumulation.proofs.mark_run.Given as goal
 
 abbrev pub invariant-loop-at : goal.invariant-loop-at

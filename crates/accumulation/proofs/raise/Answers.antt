@@ -1,12 +1,8 @@
 -- `accumulation::raise` meets its contract: the cells are mapped from the front. Assumes nothing.
 use mathlib.Core.Path.{refl}
-use Prim.Native.Nat.{◌-◌}
 use native.Mathlib.Omega.{arith}
-use lib.ListN.{length}
-use lib.Ieee.{Float, nan}
-use Rattle.float.specs.Ops.{◌⊕◌}
-use Rattle.accumulation.proofs.Mapped.{MappedTo, map_start, map_turn, map_done}
-use borrow.Author.Rules.{rules}
+use lib.Ieee.{nan}
+use Rattle.accumulation.proofs.Mapped.{map_start, map_turn, map_done}
 use Rattle.accumulation.proofs.raise.Goals as goal
 
 pub loop-i-init : goal.loop-i-init

@@ -1,12 +1,9 @@
 -- `accumulation::raise` meets its contract: the cells are mapped from the front. Assumes nothing.
-use mathlib.Core.Path.{refl}
 use Prim.Native.Nat.{◌-◌}
-use native.Mathlib.Omega.{arith}
 use lib.ListN.{length}
-use lib.Ieee.{Float, nan}
+use lib.Ieee.{Float}
 use Rattle.float.specs.Ops.{◌⊕◌}
-use Rattle.accumulation.proofs.Mapped.{MappedTo, map_start, map_turn, map_done}
-use borrow.Author.Rules.{rules}
+use Rattle.accumulation.proofs.Mapped.{MappedTo}
 use Rattle.accumulation.proofs.raise.Given as goal
 
 abbrev pub invariant-loop-i : goal.invariant-loop-i

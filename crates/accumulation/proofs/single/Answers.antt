@@ -1,6 +1,5 @@
 -- `accumulation::single` meets its contract: two cells, one after the other. Assumes nothing.
 use Rattle.accumulation.proofs.Adding.{single_is}
-use borrow.Author.Rules.{rules}
 use Rattle.accumulation.proofs.single.Goals as goal
 
 pub returns : goal.returns

@@ -4,7 +4,6 @@ use mathlib.Core.Path.{refl}
 use native.Mathlib.Omega.{arith}
 use lib.Ieee.Casts.{to_unsigned-lt}
 use Rattle.row.specs.Row.{ceil_column}
-use borrow.Author.Rules.{rules}
 use Rattle.row.proofs.ceil_column.Goals as goal
 
 pub from_whole-requires : goal.from_whole-requires

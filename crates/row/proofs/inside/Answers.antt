@@ -2,7 +2,6 @@
 use native.Mathlib.Omega.{arith}
 use lib.Ieee.Casts.{to_unsigned-lt}
 use Rattle.row.proofs.Within.{ceil_le, inside_single, inside_across}
-use borrow.Author.Rules.{rules}
 use Rattle.row.proofs.inside.Goals as goal
 
 pub overflow_add-cell : goal.overflow_add-cell

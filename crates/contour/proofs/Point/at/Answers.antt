@@ -21,8 +21,7 @@ coordinate-requires-2 c w is =
 pub returns : goal.returns
 returns c =
     let args = c.args in
-    let within = c.requires.at_in_bounds in
-    (
+    let within = c.requires.at_in_bounds in (
       c.coordinate.ensures (get_or args.words.now args.at (pos 0)) (c.pair_at-pair.ensures.0 ∙ sym (word_here args.words.now args.at (omega arith))),
       c.coordinate-2.ensures (get_or args.words.now (args.at + 1) (pos 0)) (c.pair_at-pair.ensures.1 ∙ sym (word_here args.words.now (args.at + 1) within)),
     )
