@@ -26,8 +26,8 @@ rect scale x ex ey = record { frame = record { a = scale; b = f0; c = f0; d = sc
 abbrev pub f3 : Float
 f3 = of_bits binary32 0x4040_0000
 
-abbrev pub f_3 : Float
-f_3 = of_bits binary32 0xc040_0000
+abbrev pub f_minus_3 : Float
+f_minus_3 = of_bits binary32 0xc040_0000
 
 abbrev pub f4 : Float
 f4 = of_bits binary32 0x4080_0000
@@ -35,8 +35,8 @@ f4 = of_bits binary32 0x4080_0000
 abbrev pub f10 : Float
 f10 = of_bits binary32 0x4120_0000
 
-abbrev pub f_1¼ : Float
-f_1¼ = of_bits binary32 0xbfa0_0000
+abbrev pub f_minus_1¼ : Float
+f_minus_1¼ = of_bits binary32 0xbfa0_0000
 
 abbrev pub most : Float
 most = of_bits binary32 0x4980_0000
@@ -55,7 +55,7 @@ abbrev pub picture : RoundedBox
 picture = rect f1 f10 f1 f1
 
 abbrev pub apart : RoundedBox
-apart = rect f1 f4 f_3 f3
+apart = rect f1 f4 f_minus_3 f3
 
 -- the picture as far to the right as a number goes, the window as far to the left, at half the scale
 abbrev pub far_window : RoundedBox
@@ -65,7 +65,7 @@ abbrev pub far_picture : RoundedBox
 far_picture = rect f1 most f1 f1
 
 abbrev pub far_apart : RoundedBox
-far_apart = rect f½ f_1¼ over_most f1
+far_apart = rect f½ f_minus_1¼ over_most f1
 
 abbrev pub origin : Position
 origin = record { x = f0; y = f0 }

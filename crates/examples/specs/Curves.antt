@@ -21,18 +21,18 @@ f7 = of_bits binary32 0x40e0_0000
 abbrev pub f8 : Float
 f8 = of_bits binary32 0x4100_0000
 
-abbrev pub f_2 : Float
-f_2 = of_bits binary32 0xc000_0000
+abbrev pub f_minus_2 : Float
+f_minus_2 = of_bits binary32 0xc000_0000
 
-abbrev pub beside_2 : Float
-beside_2 = of_bits binary32 0xbfff_fcb9
+abbrev pub beside_minus_2 : Float
+beside_minus_2 = of_bits binary32 0xbfff_fcb9
 
 -- how far a quarter circle's control points lie from its ends, 0.5522848; 1 less that, and 7 more
 abbrev pub k : Float
 k = of_bits binary32 0x3f0d_6289
 
-abbrev pub 1_k : Float
-1_k = of_bits binary32 0x3ee5_3aee
+abbrev pub one_minus_k : Float
+one_minus_k = of_bits binary32 0x3ee5_3aee
 
 abbrev pub 7+k : Float
 7+k = of_bits binary32 0x40f1_ac51
@@ -69,11 +69,11 @@ abbrev pub tab : List Float
 tab =
     f1 ∷ f0
     ∷ f7 ∷ f0
-    ∷ 7+k ∷ f0 ∷ f8 ∷ 1_k ∷ f8 ∷ f1
+    ∷ 7+k ∷ f0 ∷ f8 ∷ one_minus_k ∷ f8 ∷ f1
     ∷ f8 ∷ f4
     ∷ f0 ∷ f4
     ∷ f0 ∷ f1
-    ∷ f0 ∷ 1_k ∷ 1_k ∷ f0 ∷ f1 ∷ f0
+    ∷ f0 ∷ one_minus_k ∷ one_minus_k ∷ f0 ∷ f1 ∷ f0
     ∷ []
 
 -- a rectangle with a curve of four equal points at its start, and one whose curve leads to a corner from 0.0001 beside it
@@ -85,7 +85,7 @@ rect = f0 ∷ f0 ∷ f0 ∷ f0 ∷ f0 ∷ f0 ∷ f0 ∷ f0 ∷ f4 ∷ f0 ∷ f4 
 
 abbrev pub corner_curve : List Float
 corner_curve =
-    beside_2 ∷ f_minus_1 ∷ beside_2 ∷ f_minus_1 ∷ f_2 ∷ f_minus_1 ∷ f_2 ∷ f_minus_1 ∷ f2 ∷ f_minus_1 ∷ f2 ∷ f1 ∷ f_2 ∷ f1 ∷ []
+    beside_minus_2 ∷ f_minus_1 ∷ beside_minus_2 ∷ f_minus_1 ∷ f_minus_2 ∷ f_minus_1 ∷ f_minus_2 ∷ f_minus_1 ∷ f2 ∷ f_minus_1 ∷ f2 ∷ f1 ∷ f_minus_2 ∷ f1 ∷ []
 
 pub record CurvesFit : Type 0 where
   pub circle_fits : fit_with_cut_call circle_verbs circle ≡ cut.Whole (rounded_at f0 f0 f1 f1 f1) circle_strays

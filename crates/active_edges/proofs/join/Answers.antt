@@ -3,8 +3,7 @@ use mathlib.Core.Path.{refl}
 use native.Mathlib.Omega.{arith}
 use lib.ListN.{length}
 use borrow.Author.Rules.{scaled_Fits}
-use Rattle.active_edges.specs.Floats.{list_from}
-use Rattle.active_edges.proofs.Joining.{JoinAt, JoinRoom, join_start, join_room, join_falls, join_turn, join_done}
+use Rattle.active_edges.proofs.Joining.{join_start, join_room, join_falls, join_turn, join_done}
 use borrow.Author.Rules.{rules}
 use Rattle.active_edges.proofs.join.Goals as goal
 

@@ -1,11 +1,7 @@
 -- `active_edges::join` meets its contract: the active edges, and what is left of the row's list. Assumes nothing.
-use mathlib.Core.Path.{refl}
-use native.Mathlib.Omega.{arith}
 use lib.ListN.{length}
-use borrow.Author.Rules.{scaled_Fits}
 use Rattle.active_edges.specs.Floats.{list_from}
-use Rattle.active_edges.proofs.Joining.{JoinAt, JoinRoom, join_start, join_room, join_falls, join_turn, join_done}
-use borrow.Author.Rules.{rules}
+use Rattle.active_edges.proofs.Joining.{JoinAt}
 use Rattle.active_edges.proofs.join.Given as goal
 
 abbrev pub invariant-loop-at : goal.invariant-loop-at

@@ -1,5 +1,4 @@
 -- `active_edges::keep` meets its contract. Assumes nothing.
-use borrow.Author.Rules.{rules}
 use Rattle.active_edges.proofs.keep.Goals as goal
 
 pub returns-then-e-bottom : goal.returns-then-e-bottom

@@ -1,6 +1,5 @@
 -- `active_edges::piece` meets its contract. Assumes nothing.
 use Rattle.active_edges.proofs.RowEdges.{piece_is}
-use borrow.Author.Rules.{rules}
 use Rattle.active_edges.proofs.piece.Goals as goal
 
 pub returns : goal.returns

@@ -1,10 +1,6 @@
 -- `active_edges::pieces` meets its contract: the active edges, one more at a time. Assumes nothing.
-use mathlib.Core.Path.{sym}
 use Prim.Native.Nat.{◌-◌}
-use native.Mathlib.Omega.{arith}
-use lib.Seq.{length-take-le, length_front}
-use Rattle.active_edges.proofs.RowEdges.{PiecesAt, PiecesRoom, row_start, row_room, row_turn, row_done}
-use borrow.Author.Rules.{rules}
+use Rattle.active_edges.proofs.RowEdges.{PiecesAt}
 use Rattle.active_edges.proofs.pieces.Given as goal
 
 abbrev pub invariant-loop-i : goal.invariant-loop-i

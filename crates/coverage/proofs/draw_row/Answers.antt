@@ -7,7 +7,6 @@ use Rattle.float.specs.Ops.{f0}
 use Rattle.sweep.specs.Bytes.{bytes_of}
 use Rattle.coverage.proofs.OneRow.{no_edges, row_ready, pieces_made, row_wide, row_drawn}
 use Rattle.coverage.proofs.Inking.{row_grown}
-use borrow.Author.Rules.{rules}
 use Rattle.coverage.proofs.draw_row.Goals as goal
 
 pub returns-then-n-eq0 : goal.returns-then-n-eq0

@@ -1,16 +1,12 @@
 -- `coverage::draw_rows` meets its contract: before each row the state of proofs/AllRows.antt, and the ink kept. Assumes nothing.
 use mathlib.Core.Path.{sym}
-use Prim.Native.Nat.{◌-◌}
 use native.Mathlib.Omega.{arith}
 use lib.ListN.{length-set}
 use lib.Seq.{length-take-le}
 use borrow.Author.Rules.{scaled_Fits}
 use Rattle.cells.proofs.Rows.{line_room, line_long}
-use Rattle.ink.specs.Grown.{InkKept}
-use Rattle.coverage.specs.Resolving.{size_of}
-use Rattle.coverage.proofs.AllRows.{AtRow, rows_start, counters_room, joining, taken_long, drawable, rows_turn, rows_done}
+use Rattle.coverage.proofs.AllRows.{rows_start, counters_room, joining, taken_long, drawable, rows_turn, rows_done}
 use Rattle.coverage.proofs.Inking.{ink_turn}
-use borrow.Author.Rules.{rules}
 use Rattle.coverage.proofs.draw_rows.Goals as goal
 
 pub mark_words-words-requires : goal.mark_words-words-requires

@@ -2,7 +2,6 @@
 use mathlib.Core.Path.{◌∙◌}
 use native.Mathlib.Omega.{arith}
 use Rattle.coverage.proofs.Prepared.{no_rows, placed, heads_zero, heads_enough, rows_ready, group_rows}
-use borrow.Author.Rules.{rules}
 use Rattle.coverage.proofs.resolve.Goals as goal
 
 pub returns-then-height-eq0 : goal.returns-then-height-eq0

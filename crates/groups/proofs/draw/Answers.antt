@@ -5,7 +5,6 @@ use lib.ListN.{length, replicate}
 use Rattle.float.specs.Ops.{f0}
 use Rattle.ink.proofs.Kept.{kept_zeros, kept_all}
 use Rattle.groups.proofs.Cleared.{prefix, floats_long, counters_long, cleared_room, cleared_clean, cleared_zeros}
-use borrow.Author.Rules.{rules}
 use Rattle.groups.proofs.draw.Goals as goal
 
 pub slice_bounds-clear_floats-end-2 : goal.slice_bounds-clear_floats-end-2

@@ -4,7 +4,6 @@ use Rattle.word_reader.specs.Reader.{is_even_odd}
 use Rattle.word_reader.proofs.Reader.{word_here}
 use Rattle.groups.specs.Steps.{group_at}
 use Rattle.groups.proofs.OneGroup.{group_read, group_counted, contours_fine, contours_inside, contours_room, contours_end, stored_few, stored_clean, stored_room, stored, some_stored}
-use borrow.Author.Rules.{rules}
 use Rattle.groups.proofs.draw_group.Goals as goal
 
 pub returns-in_default : goal.returns-in_default

@@ -1,9 +1,6 @@
 -- `groups::draw_groups` meets its contract: before each group the state of proofs/AllGroups.antt, and the ink kept. Assumes nothing.
-use Prim.Native.Nat.{◌-◌}
 use native.Mathlib.Omega.{arith}
-use lib.ListN.{length}
-use Rattle.ink.specs.Grown.{InkKept}
-use Rattle.groups.proofs.AllGroups.{Standing, standing_start, standing_room, standing_end, the_next, next_fine, standing_more}
+use Rattle.groups.proofs.AllGroups.{standing_start, standing_room, standing_end, the_next, next_fine, standing_more}
 use Rattle.groups.proofs.draw_groups.Goals as goal
 
 pub loop-at-init : goal.loop-at-init

@@ -1,9 +1,8 @@
 -- `groups::draw_groups` meets its contract: before each group the state of proofs/AllGroups.antt, and the ink kept. Assumes nothing.
 use Prim.Native.Nat.{◌-◌}
-use native.Mathlib.Omega.{arith}
 use lib.ListN.{length}
 use Rattle.ink.specs.Grown.{InkKept}
-use Rattle.groups.proofs.AllGroups.{Standing, standing_start, standing_room, standing_end, the_next, next_fine, standing_more}
+use Rattle.groups.proofs.AllGroups.{Standing}
 use Rattle.groups.proofs.draw_groups.Given as goal
 
 abbrev pub invariant-loop-at : goal.invariant-loop-at

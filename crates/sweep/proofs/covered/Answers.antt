@@ -1,6 +1,5 @@
 -- `sweep::covered` meets its contract. Assumes nothing.
 use Rattle.sweep.specs.Bytes.{covered_of}
-use borrow.Author.Rules.{rules}
 use Rattle.sweep.proofs.covered.Goals as goal
 
 pub returns : goal.returns

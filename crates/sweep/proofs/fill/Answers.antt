@@ -1,6 +1,5 @@
 -- `sweep::fill` meets its contract. Assumes nothing.
 use Rattle.sweep.proofs.Runs.{unchanged}
-use borrow.Author.Rules.{rules}
 use Rattle.sweep.proofs.fill.Goals as goal
 
 pub returns-then-by-eq0 : goal.returns-then-by-eq0

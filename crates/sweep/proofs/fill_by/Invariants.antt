@@ -1,10 +1,8 @@
 -- `sweep::fill_by` meets its contract: the bytes are mapped from the front. Assumes nothing.
 use Prim.Native.Nat.{◌-◌}
-use native.Mathlib.Omega.{arith}
 use lib.ListN.{length}
 use Rattle.sweep.specs.Sweeping.{plus_of}
-use Rattle.accumulation.proofs.Mapped.{MappedTo, map_start, map_turn, map_done}
-use borrow.Author.Rules.{rules}
+use Rattle.accumulation.proofs.Mapped.{MappedTo}
 use Rattle.sweep.proofs.fill_by.Given as goal
 
 abbrev pub invariant-loop-i : goal.invariant-loop-i

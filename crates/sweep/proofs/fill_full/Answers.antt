@@ -1,10 +1,6 @@
 -- `sweep::fill_full` meets its contract: the bytes are mapped from the front, and 255 more is 255. Assumes nothing.
-use Prim.Native.Nat.{◌-◌}
 use native.Mathlib.Omega.{arith}
-use lib.ListN.{length}
-use Rattle.sweep.specs.Sweeping.{plus_of}
-use Rattle.accumulation.proofs.Mapped.{MappedTo, map_start, map_turn, map_done}
-use borrow.Author.Rules.{rules}
+use Rattle.accumulation.proofs.Mapped.{map_start, map_turn, map_done}
 use Rattle.sweep.proofs.fill_full.Goals as goal
 
 pub loop-i-init : goal.loop-i-init

@@ -3,7 +3,6 @@ use mathlib.Core.Path.{ap}
 use Prim.Native.Nat.{◌-◌}
 use borrow.Rule.Slice.PartMut.{put_mid}
 use Rattle.sweep.proofs.Runs.{filled_none}
-use borrow.Author.Rules.{rules}
 use Rattle.sweep.proofs.fill_run.Goals as goal
 
 pub returns-then-from-to : goal.returns-then-from-to

@@ -1,7 +1,6 @@
 -- `sweep::share` meets its contract. Assumes nothing.
 use mathlib.Core.Path.{sym}
 use Rattle.sweep.specs.Bytes.{share_of}
-use borrow.Author.Rules.{rules}
 use Rattle.sweep.proofs.share.Goals as goal
 
 pub returns-then-folded : goal.returns-then-folded

@@ -3,7 +3,7 @@
 use mathlib.Core.Path.{◌≡◌, refl, ap, ◌∙◌}
 use mathlib.Core.Bool.{Bool}
 use mathlib.Core.List.{List}
-use Prim.Native.Nat.{ℕ, ◌^◌, ◌<◌}
+use Prim.Native.Nat.{ℕ}
 use native.Mathlib.Omega.{arith}
 use lib.Count.{trailing_le}
 use lib.ListN.{length, get_or, set, replicate}
@@ -15,7 +15,6 @@ use Rattle.sweep.specs.Sweeping.{Moved, WordsDone, filled_of}
 use Rattle.sweep.proofs.Runs.{swept, all_zero}
 use Rattle.sweep.proofs.Words.{at_start, row_start, no_marks}
 use Rattle.sweep.proofs.Outside.{up_to_end, up_to_run}
-use borrow.Author.Rules.{rules}
 use Rattle.sweep.proofs.sweep.Goals as goal
 
 pub overflow_cast-from : goal.overflow_cast-from

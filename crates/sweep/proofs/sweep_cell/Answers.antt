@@ -1,10 +1,7 @@
 -- `sweep::sweep_cell` meets its contract: past the run, and past the cell. Assumes nothing.
 use mathlib.Core.Path.{refl}
-use Prim.Native.Nat.{◌<◌}
 use native.Mathlib.Omega.{arith}
-use lib.ListN.{length}
 use Rattle.sweep.proofs.Runs.{cell_in_line, cell_moved}
-use borrow.Author.Rules.{rules}
 use Rattle.sweep.proofs.sweep_cell.Goals as goal
 
 pub fill_run-requires : goal.fill_run-requires

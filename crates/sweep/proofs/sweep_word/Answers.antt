@@ -5,8 +5,7 @@ use native.Mathlib.Omega.{arith}
 use lib.Count.{trailing_le}
 use Rattle.accumulation.specs.Marks.{bit_of}
 use Rattle.sweep.proofs.Lowest.{zero_bit, rest_lt, positive}
-use Rattle.sweep.proofs.Words.{InWord, word_start, word_done, word_past, word_blank, word_turn}
-use borrow.Author.Rules.{rules}
+use Rattle.sweep.proofs.Words.{word_start, word_done, word_past, word_blank, word_turn}
 use Rattle.sweep.proofs.sweep_word.Goals as goal
 
 pub loop-bits-init : goal.loop-bits-init

@@ -5,8 +5,7 @@ use native.Mathlib.Omega.{arith}
 use lib.Count.{count_trailing_zeros, trailing_le}
 use Rattle.accumulation.specs.Marks.{bit_of}
 use Rattle.sweep.proofs.Lowest.{zero_bit, rest_lt, positive}
-use Rattle.sweep.proofs.Words.{back, InRow, row_start, row_done, row_past, row_word, row_turn}
-use borrow.Author.Rules.{rules}
+use Rattle.sweep.proofs.Words.{back, row_start, row_done, row_past, row_word, row_turn}
 use Rattle.sweep.proofs.sweep_words.Goals as goal
 
 pub loop-words-init : goal.loop-words-init
