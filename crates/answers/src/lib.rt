@@ -10,237 +10,226 @@ use fill::{FillAnswer, RectFill};
 use fit::{CutAnswer, OutlineAnswer};
 use geometry::Bounds;
 use inside::InsideAnswer;
-use libc::STDOUT_FILENO;
 use mask::Outcome;
 use pgm::{ReadAnswer, WriteAnswer};
 use scissor::ScissorAnswer;
 use shape::{BoundsAnswer, BoxAnswer, RoundedBox, TestAnswer};
+use std::io::{self, Write};
 use touch::TouchAnswer;
 
-fn refused(fault: Fault) {
-    writing::write(b"refused ");
-    io::print_decimal(STDOUT_FILENO, fault.number() as u64);
-    writing::write(b"\n");
+fn refused(out: &mut impl Write, fault: Fault) -> io::Result<()> {
+    let number = fault.number();
+    writeln!(out, "refused {number}")
 }
 
-pub fn outcome(answer: Outcome) {
+pub fn outcome(out: &mut impl Write, answer: Outcome) -> io::Result<()> {
     match answer {
-        Outcome::Done => writing::write(b"done\n"),
-        Outcome::Refused(fault) => refused(fault),
+        Outcome::Done => writing::write(out, b"done\n"),
+        Outcome::Refused(fault) => refused(out, fault),
     }
 }
 
 // ---- files
 
 // A file's length, and the whole of what was lent for it.
-fn file_line(length: usize, file: &[u8]) {
-    writing::write(b"file ");
-    io::print_decimal(STDOUT_FILENO, length as u64);
-    writing::write(b" ");
-    writing::hex(file);
-    writing::write(b"\n");
+fn file_line(out: &mut impl Write, length: usize, file: &[u8]) -> io::Result<()> {
+    write!(out, "file {length} ")?;
+    writing::hex(out, file)?;
+    writing::write(out, b"\n")
 }
 
-pub fn written(answer: WriteAnswer, file: &[u8]) {
+pub fn written(out: &mut impl Write, answer: WriteAnswer, file: &[u8]) -> io::Result<()> {
     match answer {
-        WriteAnswer::Written(length) => file_line(length, file),
-        WriteAnswer::Refused(fault) => refused(fault),
+        WriteAnswer::Written(length) => file_line(out, length, file),
+        WriteAnswer::Refused(fault) => refused(out, fault),
     }
 }
 
-fn signed(n: i32) {
-    if n < 0 {
-        writing::write(b" -");
-        io::print_decimal(STDOUT_FILENO, (-(n as i64)) as u64);
-        return;
-    }
-    writing::write(b" ");
-    io::print_decimal(STDOUT_FILENO, n as u64);
+fn signed(out: &mut impl Write, n: i32) -> io::Result<()> {
+    write!(out, " {n}")
 }
 
-fn record_line(size: Size, corner: Corner) {
-    writing::write(b"size ");
-    io::print_decimal(STDOUT_FILENO, size.width as u64);
-    writing::write(b" ");
-    io::print_decimal(STDOUT_FILENO, size.height as u64);
-    writing::write(b" corner");
-    signed(corner.x);
-    signed(corner.y);
-    writing::write(b"\n");
+fn record_line(out: &mut impl Write, size: Size, corner: Corner) -> io::Result<()> {
+    let width = size.width;
+    let height = size.height;
+    write!(out, "size {width} {height} corner")?;
+    signed(out, corner.x)?;
+    signed(out, corner.y)?;
+    writing::write(out, b"\n")
 }
 
-pub fn read(answer: ReadAnswer) {
+pub fn read(out: &mut impl Write, answer: ReadAnswer) -> io::Result<()> {
     match answer {
-        ReadAnswer::Read(r) => record_line(r.size, r.corner),
-        ReadAnswer::Refused(fault) => refused(fault),
+        ReadAnswer::Read(r) => record_line(out, r.size, r.corner),
+        ReadAnswer::Refused(fault) => refused(out, fault),
     }
 }
 
 // ---- boxes and coverages
 
-fn no_box() {
-    writing::write(b"nobox\n");
+fn no_box(out: &mut impl Write) -> io::Result<()> {
+    writing::write(out, b"nobox\n")
 }
 
-fn ten_floats(b: RoundedBox) {
+fn ten_floats(out: &mut impl Write, b: RoundedBox) -> io::Result<()> {
     let frame = b.frame;
-    writing::four(frame.a, frame.b, frame.c, frame.d);
-    writing::write_float(frame.x);
-    writing::write_float(frame.y);
-    writing::four(b.ex, b.ey, b.rx, b.ry);
+    writing::four(out, frame.a, frame.b, frame.c, frame.d)?;
+    writing::write_float(out, frame.x)?;
+    writing::write_float(out, frame.y)?;
+    writing::four(out, b.ex, b.ey, b.rx, b.ry)
 }
 
-fn eleven_floats(k: ClipCoverage) {
-    writing::four(k.la, k.lb, k.lc, k.ld);
-    writing::write_float(k.ox);
-    writing::write_float(k.oy);
-    writing::four(k.ex, k.ey, k.rx, k.ry);
-    writing::write_float(k.strays);
+fn eleven_floats(out: &mut impl Write, k: ClipCoverage) -> io::Result<()> {
+    writing::four(out, k.la, k.lb, k.lc, k.ld)?;
+    writing::write_float(out, k.ox)?;
+    writing::write_float(out, k.oy)?;
+    writing::four(out, k.ex, k.ey, k.rx, k.ry)?;
+    writing::write_float(out, k.strays)
 }
 
 // A line that names what a box is.
-fn box_line(name: &[u8], b: RoundedBox) {
-    writing::write(name);
-    ten_floats(b);
-    writing::write(b"\n");
+fn box_line(out: &mut impl Write, name: &[u8], b: RoundedBox) -> io::Result<()> {
+    writing::write(out, name)?;
+    ten_floats(out, b)?;
+    writing::write(out, b"\n")
 }
 
-pub fn boxed(answer: BoxAnswer) {
+pub fn boxed(out: &mut impl Write, answer: BoxAnswer) -> io::Result<()> {
     match answer {
-        BoxAnswer::Box(b) => box_line(b"box", b),
-        BoxAnswer::NoBox => no_box(),
-        BoxAnswer::Refused(fault) => refused(fault),
+        BoxAnswer::Box(b) => box_line(out, b"box", b),
+        BoxAnswer::NoBox => no_box(out),
+        BoxAnswer::Refused(fault) => refused(out, fault),
     }
 }
 
-fn coverage_line(k: ClipCoverage) {
-    writing::write(b"cov");
-    eleven_floats(k);
-    writing::write(b"\n");
+fn coverage_line(out: &mut impl Write, k: ClipCoverage) -> io::Result<()> {
+    writing::write(out, b"cov")?;
+    eleven_floats(out, k)?;
+    writing::write(out, b"\n")
 }
 
-pub fn coverage(answer: CoverageAnswer) {
+pub fn coverage(out: &mut impl Write, answer: CoverageAnswer) -> io::Result<()> {
     match answer {
-        CoverageAnswer::Coverage(k) => coverage_line(k),
-        CoverageAnswer::NoCoverage => no_box(),
-        CoverageAnswer::Refused(fault) => refused(fault),
+        CoverageAnswer::Coverage(k) => coverage_line(out, k),
+        CoverageAnswer::NoCoverage => no_box(out),
+        CoverageAnswer::Refused(fault) => refused(out, fault),
     }
 }
 
-fn both_line(b: RoundedBox, k: ClipCoverage) {
-    writing::write(b"both");
-    ten_floats(b);
-    eleven_floats(k);
-    writing::write(b"\n");
+fn both_line(out: &mut impl Write, b: RoundedBox, k: ClipCoverage) -> io::Result<()> {
+    writing::write(out, b"both")?;
+    ten_floats(out, b)?;
+    eleven_floats(out, k)?;
+    writing::write(out, b"\n")
 }
 
-pub fn both(answer: ScissorAnswer) {
+pub fn both(out: &mut impl Write, answer: ScissorAnswer) -> io::Result<()> {
     match answer {
-        ScissorAnswer::Both(b, k) => both_line(b, k),
-        ScissorAnswer::NoBox => no_box(),
-        ScissorAnswer::Refused(fault) => refused(fault),
+        ScissorAnswer::Both(b, k) => both_line(out, b, k),
+        ScissorAnswer::NoBox => no_box(out),
+        ScissorAnswer::Refused(fault) => refused(out, fault),
     }
 }
 
-fn fill_line(fill: RectFill) {
+fn fill_line(out: &mut impl Write, fill: RectFill) -> io::Result<()> {
     match fill {
-        RectFill::Shared(b) => box_line(b"shared", b),
-        RectFill::Covered(b) => box_line(b"covered", b),
+        RectFill::Shared(b) => box_line(out, b"shared", b),
+        RectFill::Covered(b) => box_line(out, b"covered", b),
     }
 }
 
-pub fn filled(answer: FillAnswer) {
+pub fn filled(out: &mut impl Write, answer: FillAnswer) -> io::Result<()> {
     match answer {
-        FillAnswer::Fill(fill) => fill_line(fill),
-        FillAnswer::NoBox => no_box(),
-        FillAnswer::Refused(fault) => refused(fault),
+        FillAnswer::Fill(fill) => fill_line(out, fill),
+        FillAnswer::NoBox => no_box(out),
+        FillAnswer::Refused(fault) => refused(out, fault),
     }
 }
 
 // ---- outlines
 
 // A line that names what an outline is: its box and strays.
-fn outline_line(name: &[u8], b: RoundedBox, strays: f32) {
-    writing::write(name);
-    ten_floats(b);
-    writing::write_float(strays);
-    writing::write(b"\n");
+fn outline_line(out: &mut impl Write, name: &[u8], b: RoundedBox, strays: f32) -> io::Result<()> {
+    writing::write(out, name)?;
+    ten_floats(out, b)?;
+    writing::write_float(out, strays)?;
+    writing::write(out, b"\n")
 }
 
-fn cut_line(b: RoundedBox, strays: f32, cut: RoundedBox) {
-    writing::write(b"cut");
-    ten_floats(b);
-    writing::write_float(strays);
-    ten_floats(cut);
-    writing::write(b"\n");
+fn cut_line(out: &mut impl Write, b: RoundedBox, strays: f32, cut: RoundedBox) -> io::Result<()> {
+    writing::write(out, b"cut")?;
+    ten_floats(out, b)?;
+    writing::write_float(out, strays)?;
+    ten_floats(out, cut)?;
+    writing::write(out, b"\n")
 }
 
-pub fn outlined(answer: OutlineAnswer) {
+pub fn outlined(out: &mut impl Write, answer: OutlineAnswer) -> io::Result<()> {
     match answer {
-        OutlineAnswer::Outline(b, strays) => outline_line(b"outline", b, strays),
-        OutlineAnswer::NoBox => no_box(),
-        OutlineAnswer::Refused(fault) => refused(fault),
+        OutlineAnswer::Outline(b, strays) => outline_line(out, b"outline", b, strays),
+        OutlineAnswer::NoBox => no_box(out),
+        OutlineAnswer::Refused(fault) => refused(out, fault),
     }
 }
 
-pub fn cut(answer: CutAnswer) {
+pub fn cut(out: &mut impl Write, answer: CutAnswer) -> io::Result<()> {
     match answer {
-        CutAnswer::Whole(b, strays) => outline_line(b"whole", b, strays),
-        CutAnswer::Cut(b, strays, cut) => cut_line(b, strays, cut),
-        CutAnswer::NoBox => no_box(),
-        CutAnswer::Refused(fault) => refused(fault),
+        CutAnswer::Whole(b, strays) => outline_line(out, b"whole", b, strays),
+        CutAnswer::Cut(b, strays, cut) => cut_line(out, b, strays, cut),
+        CutAnswer::NoBox => no_box(out),
+        CutAnswer::Refused(fault) => refused(out, fault),
     }
 }
 
 // ---- bounds, numbers, tests
 
-fn bounds_line(b: Bounds) {
-    writing::write(b"bounds");
-    writing::four(b.minx, b.miny, b.maxx, b.maxy);
-    writing::write(b"\n");
+fn bounds_line(out: &mut impl Write, b: Bounds) -> io::Result<()> {
+    writing::write(out, b"bounds")?;
+    writing::four(out, b.minx, b.miny, b.maxx, b.maxy)?;
+    writing::write(out, b"\n")
 }
 
-pub fn bounds(answer: BoundsAnswer) {
+pub fn bounds(out: &mut impl Write, answer: BoundsAnswer) -> io::Result<()> {
     match answer {
-        BoundsAnswer::Bounds(b) => bounds_line(b),
-        BoundsAnswer::Refused(fault) => refused(fault),
+        BoundsAnswer::Bounds(b) => bounds_line(out, b),
+        BoundsAnswer::Refused(fault) => refused(out, fault),
     }
 }
 
-pub fn reach(answer: MaybeBounds) {
+pub fn reach(out: &mut impl Write, answer: MaybeBounds) -> io::Result<()> {
     match answer {
-        MaybeBounds::Bounds(b) => bounds_line(b),
-        MaybeBounds::Everywhere => writing::write(b"everywhere\n"),
+        MaybeBounds::Bounds(b) => bounds_line(out, b),
+        MaybeBounds::Everywhere => writing::write(out, b"everywhere\n"),
     }
 }
 
-pub fn distance(answer: DistanceAnswer) {
+pub fn distance(out: &mut impl Write, answer: DistanceAnswer) -> io::Result<()> {
     match answer {
-        DistanceAnswer::Distance(x) => writing::one_float(x),
-        DistanceAnswer::Refused(fault) => refused(fault),
+        DistanceAnswer::Distance(x) => writing::one_float(out, x),
+        DistanceAnswer::Refused(fault) => refused(out, fault),
     }
 }
 
-pub fn test(answer: TestAnswer) {
+pub fn test(out: &mut impl Write, answer: TestAnswer) -> io::Result<()> {
     match answer {
-        TestAnswer::Done(holds) => writing::yes_or_no(holds),
-        TestAnswer::Refused(fault) => refused(fault),
+        TestAnswer::Done(holds) => writing::yes_or_no(out, holds),
+        TestAnswer::Refused(fault) => refused(out, fault),
     }
 }
 
-pub fn touch(answer: TouchAnswer) {
+pub fn touch(out: &mut impl Write, answer: TouchAnswer) -> io::Result<()> {
     match answer {
-        TouchAnswer::Frame(k) => writing::place(b"frame ", k),
-        TouchAnswer::NoFrame => writing::write(b"noframe\n"),
-        TouchAnswer::Refused(fault) => refused(fault),
+        TouchAnswer::Frame(k) => writing::place(out, b"frame ", k),
+        TouchAnswer::NoFrame => writing::write(out, b"noframe\n"),
+        TouchAnswer::Refused(fault) => refused(out, fault),
     }
 }
 
-pub fn inside(answer: InsideAnswer) {
+pub fn inside(out: &mut impl Write, answer: InsideAnswer) -> io::Result<()> {
     match answer {
-        InsideAnswer::AllInside => writing::write(b"inside\n"),
-        InsideAnswer::Outside(k) => writing::place(b"outside ", k),
-        InsideAnswer::NoBox => writing::write(b"nobox\n"),
-        InsideAnswer::Refused(fault) => refused(fault),
+        InsideAnswer::AllInside => writing::write(out, b"inside\n"),
+        InsideAnswer::Outside(k) => writing::place(out, b"outside ", k),
+        InsideAnswer::NoBox => writing::write(out, b"nobox\n"),
+        InsideAnswer::Refused(fault) => refused(out, fault),
     }
 }

@@ -2,6 +2,7 @@
 #![tactic(auto)]
 
 use fields::{Field, MOST_LINE, Problem};
+use std::io::{self, Write};
 
 pub const MOST_BYTES: usize = 65536;
 // The most numbers of an ink buffer. No mask asks for more than 8,192.
@@ -26,9 +27,9 @@ pub fn left(lengths: Lengths, problem: Problem) -> AfterCall {
 }
 
 // The lengths that a call gives the buffers, with its answer.
-fn set(mask: usize, ink: usize) -> AfterCall {
-    writing::write(b"done\n");
-    left(Lengths { mask, ink }, Problem::Nothing)
+fn set(out: &mut impl Write, mask: usize, ink: usize) -> io::Result<AfterCall> {
+    writing::write(out, b"done\n")?;
+    Ok(left(Lengths { mask, ink }, Problem::Nothing))
 }
 
 // How many bytes are read from a line, and what is wrong with it.
@@ -89,16 +90,17 @@ pub fn read_bytes(line: &[u8; MOST_LINE], at: usize, bytes: &mut [u8; MOST_BYTES
 }
 
 pub fn buf(
+    out: &mut impl Write,
     line: &[u8; MOST_LINE],
     at: usize,
     buffer: &mut [u8; MOST_BYTES],
     lengths: Lengths,
-) -> AfterCall {
+) -> io::Result<AfterCall> {
     let bytes = read_bytes(line, at, buffer);
     let problem = bytes.problem;
     match problem {
-        Problem::Nothing => set(bytes.count, lengths.ink),
-        problem => left(lengths, problem),
+        Problem::Nothing => set(out, bytes.count, lengths.ink),
+        problem => Ok(left(lengths, problem)),
     }
 }
 
@@ -114,103 +116,112 @@ fn fill(buffer: &mut [u8; MOST_BYTES], length: usize, byte: u8) {
 }
 
 pub fn bufn(
+    out: &mut impl Write,
     line: &[u8; MOST_LINE],
     at: usize,
     buffer: &mut [u8; MOST_BYTES],
     lengths: Lengths,
-) -> AfterCall {
+) -> io::Result<AfterCall> {
     let first = fields::size_at(line, at);
     let second = fields::size_at(line, first.at);
     if !first.good || !second.good {
-        return left(lengths, Problem::NotANumber);
+        return Ok(left(lengths, Problem::NotANumber));
     }
     let n = first.value;
     let byte = second.value;
     if n > MOST_BYTES {
-        return left(lengths, Problem::BufferTooLong);
+        return Ok(left(lengths, Problem::BufferTooLong));
     }
     if byte > 255 {
-        return left(lengths, Problem::NotAByte);
+        return Ok(left(lengths, Problem::NotAByte));
     }
     let Problem::Nothing = fields::at_end(line, second.at) else {
-        return left(lengths, Problem::FieldTooMany);
+        return Ok(left(lengths, Problem::FieldTooMany));
     };
     fill(buffer, n, byte as u8);
-    set(n, lengths.ink)
+    set(out, n, lengths.ink)
 }
 
-fn show_bytes(buffer: &[u8], length: usize) {
+fn show_bytes(out: &mut impl Write, buffer: &[u8], length: usize) -> io::Result<()> {
     if length <= buffer.len() {
-        writing::hex(&buffer[0..length]);
+        writing::hex(out, &buffer[0..length])?;
     }
+    Ok(())
 }
 
 pub fn show(
+    out: &mut impl Write,
     line: &[u8; MOST_LINE],
     at: usize,
     buffer: &[u8; MOST_BYTES],
     length: usize,
-) -> Problem {
+) -> io::Result<Problem> {
     let Problem::Nothing = fields::at_end(line, at) else {
-        return Problem::FieldTooMany;
+        return Ok(Problem::FieldTooMany);
     };
     if length == 0 {
-        writing::write(b"-");
+        writing::write(out, b"-")?;
     }
-    show_bytes(buffer, length);
-    writing::write(b"\n");
-    Problem::Nothing
+    show_bytes(out, buffer, length)?;
+    writing::write(out, b"\n")?;
+    Ok(Problem::Nothing)
 }
 
 // A cell's shade, from none to all.
-fn shade(byte: u8) {
+fn shade(out: &mut impl Write, byte: u8) -> io::Result<()> {
     match byte {
-        0..=25 => writing::write(b" "),
-        26..=76 => writing::write(b"."),
-        77..=127 => writing::write(b":"),
-        128..=178 => writing::write(b"+"),
-        179..=229 => writing::write(b"#"),
-        230..=255 => writing::write(b"@"),
+        0..=25 => writing::write(out, b" "),
+        26..=76 => writing::write(out, b"."),
+        77..=127 => writing::write(out, b":"),
+        128..=178 => writing::write(out, b"+"),
+        179..=229 => writing::write(out, b"#"),
+        230..=255 => writing::write(out, b"@"),
     }
 }
 
 // A line for each row that the buffer has whole or in part.
-fn picture_cells(buffer: &[u8; MOST_BYTES], length: usize, width: usize, height: usize) {
+fn picture_cells(
+    out: &mut impl Write,
+    buffer: &[u8; MOST_BYTES],
+    length: usize,
+    width: usize,
+    height: usize,
+) -> io::Result<()> {
     if width == 0 {
-        return;
+        return Ok(());
     }
-    let mut i = 0;
-    while i < MOST_BYTES {
+    for i in 0..MOST_BYTES {
         if length <= i {
-            return;
+            return Ok(());
         }
         if height <= i / width {
-            return;
+            return Ok(());
         }
-        shade(buffer[i]);
-        i += 1;
-        if i % width == 0 {
-            writing::write(b"\n");
+        shade(out, buffer[i])?;
+        if (i + 1) % width == 0 {
+            writing::write(out, b"\n")?;
         }
     }
+    Ok(())
 }
 
 pub fn picture(
+    out: &mut impl Write,
     line: &[u8; MOST_LINE],
     at: usize,
     buffer: &[u8; MOST_BYTES],
     length: usize,
-) -> Problem {
+) -> io::Result<Problem> {
     let width = fields::size_at(line, at);
     let height = fields::size_at(line, width.at);
     if !width.good || !height.good {
-        return Problem::NotANumber;
+        return Ok(Problem::NotANumber);
     }
     let Problem::Nothing = fields::at_end(line, height.at) else {
-        return Problem::FieldTooMany;
+        return Ok(Problem::FieldTooMany);
     };
-    picture_cells(buffer, length, width.value, height.value);
-    Problem::Nothing
+    picture_cells(out, buffer, length, width.value, height.value)?;
+    Ok(Problem::Nothing)
 }
 
 // ---- ink
@@ -228,50 +239,53 @@ fn fill_ink(ink: &mut [u16; MOST_INK], length: usize, number: u16) {
 
 // Makes an ink buffer so long, each number the same.
 pub fn ink(
+    out: &mut impl Write,
     line: &[u8; MOST_LINE],
     at: usize,
     ink: &mut [u16; MOST_INK],
     lengths: Lengths,
-) -> AfterCall {
+) -> io::Result<AfterCall> {
     let first = fields::size_at(line, at);
     let second = fields::size_at(line, first.at);
     if !first.good || !second.good {
-        return left(lengths, Problem::NotANumber);
+        return Ok(left(lengths, Problem::NotANumber));
     }
     let n = first.value;
     let number = second.value;
     if n > MOST_INK {
-        return left(lengths, Problem::InkTooLong);
+        return Ok(left(lengths, Problem::InkTooLong));
     }
     if number > 65535 {
-        return left(lengths, Problem::NotSixteenBits);
+        return Ok(left(lengths, Problem::NotSixteenBits));
     }
     let Problem::Nothing = fields::at_end(line, second.at) else {
-        return left(lengths, Problem::FieldTooMany);
+        return Ok(left(lengths, Problem::FieldTooMany));
     };
     fill_ink(ink, n, number as u16);
-    set(lengths.mask, n)
+    set(out, lengths.mask, n)
 }
 
-fn show_numbers(ink: &[u16], length: usize) {
+fn show_numbers(out: &mut impl Write, ink: &[u16], length: usize) -> io::Result<()> {
     if length <= ink.len() {
-        writing::numbers(&ink[0..length]);
+        writing::numbers(out, &ink[0..length])?;
     }
+    Ok(())
 }
 
 pub fn show_ink(
+    out: &mut impl Write,
     line: &[u8; MOST_LINE],
     at: usize,
     ink: &[u16; MOST_INK],
     length: usize,
-) -> Problem {
+) -> io::Result<Problem> {
     let Problem::Nothing = fields::at_end(line, at) else {
-        return Problem::FieldTooMany;
+        return Ok(Problem::FieldTooMany);
     };
     if length == 0 {
-        writing::write(b"-");
+        writing::write(out, b"-")?;
     }
-    show_numbers(ink, length);
-    writing::write(b"\n");
-    Problem::Nothing
+    show_numbers(out, ink, length)?;
+    writing::write(out, b"\n")?;
+    Ok(Problem::Nothing)
 }

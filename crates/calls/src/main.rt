@@ -5,6 +5,7 @@ use buffers::{Lengths, MOST_BYTES, MOST_INK};
 use fields::{MOST_LINE, Problem};
 use input::{CHUNK, Input, Reading};
 use line_calls::Held;
+use std::io::{self, BufWriter, Read, Write};
 
 // The numbers of an ink buffer at first: enough for every mask.
 const FIRST_INK: usize = 8192;
@@ -36,6 +37,8 @@ fn kept(r: Reading, line: u64, held: Held) -> State {
 
 // Reads a line and answers it, or says what is wrong with it.
 fn turn(
+    reader: &mut impl Read,
+    out: &mut impl Write,
     chunk: &mut [u8; CHUNK],
     line: &mut [u8; MOST_LINE],
     run: &mut [u8; MOST_BYTES],
@@ -43,35 +46,40 @@ fn turn(
     next: &mut [u8; MOST_BYTES],
     next_ink: &mut [u16; MOST_INK],
     s: State,
-) -> State {
+) -> io::Result<State> {
     let r = input::read_line(
+        reader,
         chunk,
         line,
         Input {
             at: s.at,
             have: s.have,
         },
-    );
+    )?;
     let number = one_more(s.line);
     if r.over {
-        writing::tell(number, Problem::LineTooLong);
-        return kept(r, number, s.held);
+        writing::tell(out, number, Problem::LineTooLong)?;
+        out.flush()?;
+        return Ok(kept(r, number, s.held));
     }
-    let after = line_calls::answer(line, run, run_ink, next, next_ink, s.held);
+    let after = line_calls::answer(out, line, run, run_ink, next, next_ink, s.held)?;
     let problem = after.problem;
-    writing::tell(number, problem);
-    kept(r, number, after.held)
+    writing::tell(out, number, problem)?;
+    out.flush()?;
+    Ok(kept(r, number, after.held))
 }
 
-// Answers every line. The turns are counted down, from a number that no input uses up.
+// Answers every line. The turns are counted, up to a number that no input uses up.
 fn answer_all(
+    reader: &mut impl Read,
+    out: &mut impl Write,
     chunk: &mut [u8; CHUNK],
     line: &mut [u8; MOST_LINE],
     run: &mut [u8; MOST_BYTES],
     run_ink: &mut [u16; MOST_INK],
     next: &mut [u8; MOST_BYTES],
     next_ink: &mut [u16; MOST_INK],
-) {
+) -> io::Result<()> {
     let first = Lengths {
         mask: 0,
         ink: FIRST_INK,
@@ -86,14 +94,18 @@ fn answer_all(
         },
         open: true,
     };
-    let mut turns = u64::MAX;
-    while turns > 0 && s.open {
-        s = turn(chunk, line, run, run_ink, next, next_ink, s);
-        turns -= 1;
+    for _ in 0..u64::MAX {
+        if !s.open {
+            break;
+        }
+        s = turn(reader, out, chunk, line, run, run_ink, next, next_ink, s)?;
     }
+    Ok(())
 }
 
-fn main() {
+fn main(rt: HostRuntime) -> io::Result<()> {
+    let mut reader = rt.reader();
+    let mut out = BufWriter::with_capacity(rt.alloc(), CHUNK, io::writer(&rt))?;
     let mut chunk = [0u8; CHUNK];
     let mut line = [0u8; MOST_LINE];
     let mut run = [0u8; MOST_BYTES];
@@ -101,11 +113,13 @@ fn main() {
     let mut next = [0u8; MOST_BYTES];
     let mut next_ink = [7u16; MOST_INK];
     answer_all(
+        &mut reader,
+        &mut out,
         &mut chunk,
         &mut line,
         &mut run,
         &mut run_ink,
         &mut next,
         &mut next_ink,
-    );
+    )
 }

@@ -2,7 +2,7 @@
 #![tactic(auto)]
 
 use fields::MOST_LINE;
-use libc::STDIN_FILENO;
+use std::io::{self, Read};
 
 pub const CHUNK: usize = 65536;
 
@@ -75,34 +75,48 @@ fn add_byte(line: &mut [u8; MOST_LINE], byte: u8, at: usize, r: Reading) -> Read
 }
 
 // Reads the next chunk, or ends the last line.
-fn refill(chunk: &mut [u8; CHUNK], line: &mut [u8; MOST_LINE], r: Reading) -> Reading {
-    let got = libc::read(STDIN_FILENO, chunk);
-    let have = io::count(got, chunk);
+fn refill(
+    reader: &mut impl Read,
+    chunk: &mut [u8; CHUNK],
+    line: &mut [u8; MOST_LINE],
+    r: Reading,
+) -> io::Result<Reading> {
+    let have = reader.read(chunk)?;
     if have == 0 {
-        return end_line(line, 0, 0, r.length, r.over, r.found);
+        return Ok(end_line(line, 0, 0, r.length, r.over, r.found));
     }
-    Reading {
+    Ok(Reading {
         at: 0,
         have,
         length: r.length,
         over: r.over,
         more: true,
         found: r.found,
-    }
+    })
 }
 
-fn step(chunk: &mut [u8; CHUNK], line: &mut [u8; MOST_LINE], r: Reading) -> Reading {
+fn step(
+    reader: &mut impl Read,
+    chunk: &mut [u8; CHUNK],
+    line: &mut [u8; MOST_LINE],
+    r: Reading,
+) -> io::Result<Reading> {
     let at = r.at;
     if at < r.have {
         if at < CHUNK {
-            return add_byte(line, chunk[at], at + 1, r);
+            return Ok(add_byte(line, chunk[at], at + 1, r));
         }
     }
-    refill(chunk, line, r)
+    refill(reader, chunk, line, r)
 }
 
-// Reads a line. The turns are counted down, from a number that no line uses up.
-pub fn read_line(chunk: &mut [u8; CHUNK], line: &mut [u8; MOST_LINE], input: Input) -> Reading {
+// Reads a line. The turns are counted, up to a number that no line uses up.
+pub fn read_line(
+    reader: &mut impl Read,
+    chunk: &mut [u8; CHUNK],
+    line: &mut [u8; MOST_LINE],
+    input: Input,
+) -> io::Result<Reading> {
     let mut r = Reading {
         at: input.at,
         have: input.have,
@@ -111,10 +125,11 @@ pub fn read_line(chunk: &mut [u8; CHUNK], line: &mut [u8; MOST_LINE], input: Inp
         more: true,
         found: false,
     };
-    let mut turns = u64::MAX;
-    while turns > 0 && r.more {
-        r = step(chunk, line, r);
-        turns -= 1;
+    for _ in 0..u64::MAX {
+        if !r.more {
+            break;
+        }
+        r = step(reader, chunk, line, r)?;
     }
-    r
+    Ok(r)
 }

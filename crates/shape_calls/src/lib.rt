@@ -2,6 +2,7 @@
 #![tactic(auto)]
 
 use fields::{Field, MOST_FLOATS, MOST_LINE, Problem};
+use std::io::{self, Write};
 
 // The calls that take a number of floats, and nothing else.
 #[derive(Clone, Copy)]
@@ -105,57 +106,66 @@ fn floats_of(call: FloatCall) -> usize {
 }
 
 // Answers a call from its floats.
-fn answer_floats(call: FloatCall, f: &[f32; MOST_FLOATS]) {
+fn answer_floats(out: &mut impl Write, call: FloatCall, f: &[f32; MOST_FLOATS]) -> io::Result<()> {
     match call {
-        FloatCall::Transformed => box_calls::transformed(f),
-        FloatCall::Bounds => box_calls::bounds(f),
-        FloatCall::Coverage => box_calls::coverage(f),
-        FloatCall::Intersection => box_calls::intersection(f),
-        FloatCall::RectIntersection => box_calls::rect_intersection(f),
-        FloatCall::Parallel => box_calls::parallel(f),
-        FloatCall::WithScissor => window_calls::with_scissor(f),
-        FloatCall::TrimmedScissor => window_calls::trimmed_scissor(f),
-        FloatCall::RectFill => window_calls::rect_fill(f),
-        FloatCall::Contains => window_calls::contains(f),
-        FloatCall::Distance => window_calls::distance(f),
-        FloatCall::Reach => window_calls::reach(f),
-        FloatCall::Holds => window_calls::holds(f),
-        FloatCall::Unknown => {}
+        FloatCall::Transformed => box_calls::transformed(out, f),
+        FloatCall::Bounds => box_calls::bounds(out, f),
+        FloatCall::Coverage => box_calls::coverage(out, f),
+        FloatCall::Intersection => box_calls::intersection(out, f),
+        FloatCall::RectIntersection => box_calls::rect_intersection(out, f),
+        FloatCall::Parallel => box_calls::parallel(out, f),
+        FloatCall::WithScissor => window_calls::with_scissor(out, f),
+        FloatCall::TrimmedScissor => window_calls::trimmed_scissor(out, f),
+        FloatCall::RectFill => window_calls::rect_fill(out, f),
+        FloatCall::Contains => window_calls::contains(out, f),
+        FloatCall::Distance => window_calls::distance(out, f),
+        FloatCall::Reach => window_calls::reach(out, f),
+        FloatCall::Holds => window_calls::holds(out, f),
+        FloatCall::Unknown => Ok(())
     }
 }
 
-fn of_floats(line: &[u8; MOST_LINE], call: FloatCall, at: usize) -> Problem {
+fn of_floats(
+    out: &mut impl Write,
+    line: &[u8; MOST_LINE],
+    call: FloatCall,
+    at: usize,
+) -> io::Result<Problem> {
     let mut floats = [0f32; MOST_FLOATS];
     let list = fields::last_floats(line, at, floats_of(call), &mut floats);
     let problem = list.problem;
     let Problem::Nothing = problem else {
-        return problem;
+        return Ok(problem);
     };
-    answer_floats(call, &floats);
-    Problem::Nothing
+    answer_floats(out, call, &floats)?;
+    Ok(Problem::Nothing)
 }
 
 // The calls that take an outline; those that take a list of boxes are crate list_calls's.
-fn answer_outline(line: &[u8; MOST_LINE], name: Field) -> Problem {
+fn answer_outline(
+    out: &mut impl Write,
+    line: &[u8; MOST_LINE],
+    name: Field,
+) -> io::Result<Problem> {
     if fields::is(line, name, b"fit") {
-        return outline_calls::fit(line, name.end);
+        return outline_calls::fit(out, line, name.end);
     }
     if fields::is(line, name, b"fit_outline") {
-        return outline_calls::fit_outline(line, name.end);
+        return outline_calls::fit_outline(out, line, name.end);
     }
     if fields::is(line, name, b"fit_with_cut") {
-        return outline_calls::fit_with_cut(line, name.end);
+        return outline_calls::fit_with_cut(out, line, name.end);
     }
     if fields::is(line, name, b"upright_rect") {
-        return outline_calls::upright_rect(line, name.end);
+        return outline_calls::upright_rect(out, line, name.end);
     }
-    list_calls::answer(line, name)
+    list_calls::answer(out, line, name)
 }
 
 // Answers the call that has a name, with the fields behind it.
-pub fn answer(line: &[u8; MOST_LINE], name: Field) -> Problem {
+pub fn answer(out: &mut impl Write, line: &[u8; MOST_LINE], name: Field) -> io::Result<Problem> {
     match call(line, name) {
-        FloatCall::Unknown => answer_outline(line, name),
-        known => of_floats(line, known, name.end),
+        FloatCall::Unknown => answer_outline(out, line, name),
+        known => of_floats(out, line, known, name.end),
     }
 }

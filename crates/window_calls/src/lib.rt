@@ -4,19 +4,29 @@
 use clip_coverage::ClipCoverage;
 use fields::MOST_FLOATS;
 use geometry::{Bounds, Position};
+use std::io::{self, Write};
 
 // ---- a clip, a scissor or a fill, and the fringe
 
-pub fn with_scissor(f: &[f32; MOST_FLOATS]) {
-    answers::both(scissor::with_scissor(boxes::box_at(f, 0), boxes::box_at(f, 10), f[20]));
+pub fn with_scissor(out: &mut impl Write, f: &[f32; MOST_FLOATS]) -> io::Result<()> {
+    answers::both(
+        out,
+        scissor::with_scissor(boxes::box_at(f, 0), boxes::box_at(f, 10), f[20]),
+    )
 }
 
-pub fn trimmed_scissor(f: &[f32; MOST_FLOATS]) {
-    answers::boxed(scissor::trimmed_scissor(boxes::box_at(f, 0), boxes::box_at(f, 10), f[20]));
+pub fn trimmed_scissor(out: &mut impl Write, f: &[f32; MOST_FLOATS]) -> io::Result<()> {
+    answers::boxed(
+        out,
+        scissor::trimmed_scissor(boxes::box_at(f, 0), boxes::box_at(f, 10), f[20]),
+    )
 }
 
-pub fn rect_fill(f: &[f32; MOST_FLOATS]) {
-    answers::filled(fill::rect_fill(boxes::box_at(f, 0), boxes::box_at(f, 10), f[20]));
+pub fn rect_fill(out: &mut impl Write, f: &[f32; MOST_FLOATS]) -> io::Result<()> {
+    answers::filled(
+        out,
+        fill::rect_fill(boxes::box_at(f, 0), boxes::box_at(f, 10), f[20]),
+    )
 }
 
 // ---- a coverage
@@ -37,25 +47,25 @@ fn coverage_of(f: &[f32; MOST_FLOATS]) -> ClipCoverage {
     }
 }
 
-pub fn contains(f: &[f32; MOST_FLOATS]) {
-    answers::test(coverage_of(f).contains(boxes::box_at(f, 11)));
+pub fn contains(out: &mut impl Write, f: &[f32; MOST_FLOATS]) -> io::Result<()> {
+    answers::test(out, coverage_of(f).contains(boxes::box_at(f, 11)))
 }
 
-pub fn distance(f: &[f32; MOST_FLOATS]) {
+pub fn distance(out: &mut impl Write, f: &[f32; MOST_FLOATS]) -> io::Result<()> {
     let p = Position { x: f[11], y: f[12] };
-    answers::distance(coverage_of(f).distance(p));
+    answers::distance(out, coverage_of(f).distance(p))
 }
 
-pub fn reach(f: &[f32; MOST_FLOATS]) {
-    answers::reach(device_bounds::reach(coverage_of(f)));
+pub fn reach(out: &mut impl Write, f: &[f32; MOST_FLOATS]) -> io::Result<()> {
+    answers::reach(out, device_bounds::reach(coverage_of(f)))
 }
 
-pub fn holds(f: &[f32; MOST_FLOATS]) {
+pub fn holds(out: &mut impl Write, f: &[f32; MOST_FLOATS]) -> io::Result<()> {
     let b = Bounds {
         minx: f[11],
         miny: f[12],
         maxx: f[13],
         maxy: f[14],
     };
-    writing::yes_or_no(device_bounds::holds(coverage_of(f), b));
+    writing::yes_or_no(out, device_bounds::holds(coverage_of(f), b))
 }

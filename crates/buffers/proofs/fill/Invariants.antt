@@ -1,5 +1,4 @@
 -- `buffers::fill` is safe and ends. The measure is what is left of the buffer. Assumes nothing.
-use borrow.Author.Rules.{rules}
 use Prim.Native.Nat.{◌-◌}
 use Rattle.buffers.proofs.fill.Given as goal
 

@@ -1,5 +1,4 @@
 -- `buffers::fill_ink` is safe and ends. The measure is what is left of the ink. Assumes nothing.
-use borrow.Author.Rules.{rules}
 use Prim.Native.Nat.{◌-◌}
 use Rattle.buffers.proofs.fill_ink.Given as goal
 

@@ -1,5 +1,4 @@
 -- `fields::field_end` is safe and ends. The measure is what is left of the longest line. Assumes nothing.
-use borrow.Author.Rules.{rules}
 use Prim.Native.Nat.{◌-◌}
 use Rattle.fields.proofs.field_end.Given as goal
 

@@ -1,5 +1,4 @@
 -- `fields::floats` is safe and ends. The measure is the number of turns that are left. Assumes nothing.
-use borrow.Author.Rules.{rules}
 use Rattle.fields.proofs.floats.Given as goal
 
 abbrev pub invariant-loop-turns : goal.invariant-loop-turns

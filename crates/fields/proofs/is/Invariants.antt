@@ -1,5 +1,4 @@
 -- `fields::is` is safe and ends. The measure is what is left of the name. Assumes nothing.
-use borrow.Author.Rules.{rules}
 use Prim.Native.Nat.{◌-◌}
 use lib.ListN.{length}
 use Rattle.fields.proofs.is.Given as goal

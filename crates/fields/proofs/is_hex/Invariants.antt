@@ -1,5 +1,4 @@
 -- `fields::is_hex` is safe and ends. The measure is what is left of the field. Assumes nothing.
-use borrow.Author.Rules.{rules}
 use Prim.Native.Nat.{◌-◌}
 use Rattle.fields.proofs.is_hex.Given as goal
 

@@ -1,5 +1,4 @@
 -- `fields::number` is safe and ends. The measure is what is left of the field. Assumes nothing.
-use borrow.Author.Rules.{rules}
 use Prim.Native.Nat.{◌-◌}
 use Rattle.fields.proofs.number.Given as goal
 

@@ -1,5 +1,4 @@
 -- `fields::skip_blanks` is safe and ends. The measure is what is left of the longest line. Assumes nothing.
-use borrow.Author.Rules.{rules}
 use Prim.Native.Nat.{◌-◌}
 use Rattle.fields.proofs.skip_blanks.Given as goal
 

@@ -1,6 +1,5 @@
 -- `list_calls::put_box` is safe and ends. The measure is what is left to put. Assumes nothing.
 use Prim.Native.Nat.{◌-◌}
-use borrow.Author.Rules.{rules}
 use Rattle.list_calls.proofs.put_box.Given as goal
 
 abbrev pub invariant-loop-i : goal.invariant-loop-i

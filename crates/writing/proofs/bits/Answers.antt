@@ -1,6 +1,5 @@
 -- `writing::bits` is safe: a finite float has bits. Assumes nothing.
 use mathlib.Core.Path.{sym, ◌∙◌}
-use borrow.Author.Rules.{rules}
 use Rattle.float.proofs.Fields.{number_no_nan}
 use Rattle.float.proofs.Tests.{holds}
 use Rattle.writing.proofs.bits.Goals as goal
