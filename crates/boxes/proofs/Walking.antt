@@ -8,7 +8,8 @@ use Prim.Native.Nat.{ℕ, suc, ◌+◌, ◌<◌, ◌≤◌}
 use native.Mathlib.Numerals.{add-one}
 use lib.Dec.{T as Holds, ltb, ltb→lt, nltb→le}
 use mir.Facts.{and_yes, and_no}
-use lib.ListN.{length}
+use lib.ListN.{length, get_or, drop}
+use lib.Seq.{drop-cons}
 use Rattle.fault.specs.declared.Check.{Check}
 use Rattle.fault.specs.declared.Check.TheVariants as check
 use Rattle.fault.specs.Check.{answer_unless, ◌and_then◌}
@@ -59,6 +60,13 @@ pub goes_on_lem : {bs : List RoundedBox} {q : Ask} {i : ℕ} {b : RoundedBox} {r
     → SoFar bs q i (b ∷ rest) r → Holds (passes (refusal_of r)) → SoFar bs q (i + 1) rest (step_of r b i q)
 goes_on_lem {bs} {q} {i} {b} {rest} {r} h g =
     record { result = rw (add-one i) (h.result ∙ stepped (box_check_of b) (asks_of q b) r i b rest q refl refl g) }
+
+-- the same where the boxes that are left stand in the list
+pub goes_on_at : {bs : List RoundedBox} {q : Ask} {i : ℕ} {r : Found} (d : RoundedBox) → SoFar bs q i (drop i bs) r
+    → Holds (passes (refusal_of r)) × (i < length bs) → SoFar bs q (i + 1) (drop (i + 1) bs) (step_of r (get_or bs i d) i q)
+goes_on_at {bs} {q} {i} {r} d h g =
+    let k = goes_on_lem (rw (drop-cons bs i d g.1) at h) g.0 in
+    rw (← add-one i) at k
 
 -- after the last box, or at a refusal
 done : (r : Found) (i : ℕ) (rest : List RoundedBox) (q : Ask) → Holds (not (passes (refusal_of r))) ⊎ (rest ≡ []) → result_of r i rest q ≡ r

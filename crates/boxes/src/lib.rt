@@ -1,10 +1,9 @@
 // A list of boxes: what is refused of it, and the first place where something is asked of its boxes.
 // Added to femtovg's calls by document 01, and by document 02, change 10.
 //
-// `first_place` is one thin walk over lent boxes. The borrow checker covers no function with a slice of
-// structs, so it is proved by hand. What the walk starts from, its test and its step are functions that
-// take what they need by value, and those are covered. `first_place_in` is the same walk over lent
-// floats, ten for each box: its callers hold no list of boxes.
+// `first_place` is one thin walk over lent boxes. What the walk starts from, its test and its step are
+// functions that take what they need by value. `first_place_in` is the same walk over lent floats, ten
+// for each box: its callers hold no list of boxes.
 #![tactic(auto)]
 
 ghost use Rattle.std.specs.Prelude.{◌+◌, ◌*◌, ◌≤◌, length, ◌≡◌};

@@ -91,6 +91,7 @@ impl ClipCoverage {
     }
 
     // Whether a point lies off a round corner, the ends of the arc with it.
+    #[tactic(auto, unfolding(crate::specs::Distance::round_of))]
     fn round(self, corner: Position) -> bool
         ensures { result ≡ round_of self corner }
     {
@@ -98,6 +99,7 @@ impl ClipCoverage {
     }
 
     // Whether its distance is that from the corner's arc.
+    #[tactic(auto, unfolding(crate::specs::Distance::off_corner_of))]
     fn off_corner(self, corner: Position) -> bool
         ensures { result ≡ off_corner_of self corner }
     {

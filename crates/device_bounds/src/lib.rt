@@ -151,6 +151,7 @@ fn point_holds(k: ClipCoverage, x: f32, y: f32) -> bool
     outside(k, Position { x, y }, 0.0) <= ClipCoverage::DRAW_SLACK
 }
 
+#[tactic(auto, unfolding(crate::specs::Holds::corners_hold_of))]
 fn corners_hold(k: ClipCoverage, b: Bounds) -> bool
     ensures { result ≡ corners_hold_of k b }
 {

@@ -115,6 +115,7 @@ fn grown(clip: RoundedBox, per_fringe: Position) -> RoundedBox
 }
 
 // The clip itself, where a fill that is placed in its frame covers it.
+#[tactic(auto, unfolding(crate::specs::Fill::covered_by_of))]
 fn covered_by(clip: RoundedBox, p: Placed, per_fringe: Position) -> MaybeFill
     ensures { result ≡ covered_by_of clip p per_fringe }
 {

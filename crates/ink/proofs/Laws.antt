@@ -2,16 +2,14 @@
 use mathlib.Core.Path.{◌≡◌, refl, sym, ap, ap₂, ◌∙◌}
 use mathlib.Core.List.{List, [], ◌∷◌, ◌++◌}
 use Prim.Native.Nat.{ℕ, zero, suc, ◌+◌, ◌*◌, ◌-◌, ◌≤◌, ◌<◌}
-use native.Mathlib.Nat.{mul-le-mul_right, mul_comm, suc-mul}
 use native.Mathlib.Omega.{arith}
-use lib.ListN.{length, get_or, take, drop, length-append, length-take, length-drop, get_or-append}
-use lib.Seq.{get_or-take, get_or-drop, ext_get_or, get_or-append-add}
+use lib.ListN.{length, get_or, take, drop, length-append, length-drop, get_or-append}
+use lib.Seq.{get_or-drop, get_or-append-add}
 use Rattle.cells.specs.declared.Size.{Size}
 use Rattle.cells.specs.Rows.{rows_from}
 use Rattle.cells.proofs.Places.{rows_length, rows_get}
 use Rattle.cells.specs.Cells.{cells_of}
 use Rattle.ink.specs.Ink.{ink_of, line_at, ink_row, ink_of_rows, ink_after, stretch_at}
-use Rattle.ink.specs.Lent.{ink_needed}
 use Rattle.ink.specs.Laws.{InkPinned, NumbersOfRows, OnlyCells, StretchesPrintTheMask}
 use Rattle.ink.proofs.Lines.{line_front}
 use Rattle.ink.proofs.Stretches.{same, ink_is, ink_only}

@@ -2,8 +2,7 @@
 // change 10.
 //
 // `all_inside` is what is asked of each box, the walk over the lent boxes (crate boxes), and an end, as
-// `touch::touch` is, and like it is proved by hand. `inside_floats` is the same over lent floats, and is
-// covered.
+// `touch::touch` is. `inside_floats` is the same over lent floats.
 #![tactic(auto)]
 
 ghost use Rattle.std.specs.Prelude.{◌*◌, ◌≤◌, length, ◌≡◌};

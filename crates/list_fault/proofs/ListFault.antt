@@ -139,6 +139,7 @@ going_fault (at_contour_count b) f g e = cc
 going_fault (at_point_count n b) f g e = cc
 going_fault (at_x m n b) f g e = cc
 going_fault (at_y m n b) f g e = cc
+going_fault (wrong _) f g e = elim g [ ]
 
 begins_fault : (ws : List ℤ) (f : Fault) → read_words ws ≡ fault f → Begins ws → f ≡ ListEndsEarly
 begins_fault ws f e h = going_fault (ran ws) f (begins_going ws h) (fault_ran ws f e)

@@ -20,7 +20,7 @@ use Rattle.outline.specs.declared.Segment.TheVariants as segment
 use Rattle.outline.specs.declared.Walk.{Walk}
 use Rattle.outline.specs.declared.Step.{Step}
 use Rattle.outline.specs.declared.Step.TheVariants as step
-use Rattle.outline.specs.Outline.{most_verbs, floats_of, floats_needed_of}
+use Rattle.outline.specs.Outline.{most_verbs, most_points, floats_of, floats_needed_of}
 use Rattle.outline.specs.Contour.{
   Contour,
   Walked,
@@ -130,6 +130,10 @@ module _ {Kept : Contour → Type 0} {verbs : List ℕ} {positions : List Float}
   -- at most as many segments as verbs
   pub most : length verbs ≤ most_verbs → length s.contour.segments ≤ most_verbs
   most small = let n = s.few in let m = s.within in omega arith
+
+  -- there is room for one point more
+  pub has_room : length verbs ≤ most_verbs → w.count < most_points
+  has_room small = let n = most small in let c = count_is in omega arith
 
   pub count_fits : i < length verbs → length verbs ≤ most_verbs → w.count < most_verbs
   count_fits l small = let n = count_is in let f = s.few in omega arith

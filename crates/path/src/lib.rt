@@ -38,6 +38,7 @@ pub enum Verb {
 
 impl PackedVerb {
     // Ruled out: a verb for the byte 6; Solid and Hole exchanged.
+    #[tactic(auto, unfolding(crate::specs::Verbs::unpacked_of))]
     pub fn from_byte(byte: u8) -> Unpacked
         ensures { result ≡ unpacked_of byte }
     {

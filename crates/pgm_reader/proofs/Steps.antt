@@ -9,7 +9,7 @@ use lib.ListN.{length, get_or, take, drop, drop_of_length-le}
 use lib.Seq.{drop-drop, drop-cons}
 use borrow.Author.Tests.{ne_eqb, le-ltb, eq-eqb, lt-ltb}
 use Rattle.cells.specs.declared.Size.{Size}
-use Rattle.pgm_reader.specs.Reading.{is_space, is_digit, leading, value_of, Read, ok, bad, and_then, read_digits, read_field, read_positive, read_mark, read_space, read_depth, read_fields, read_header}
+use Rattle.pgm_reader.specs.Reading.{is_space, is_digit, leading, value_of, ok, bad, and_then, read_digits, read_field, read_positive, read_mark, read_space, read_depth, read_fields, read_header}
 use Rattle.pgm_reader.specs.Steps.{field_of, header_of}
 use Rattle.pgm_reader.specs.declared.Field.TheVariants as field
 use Rattle.pgm_reader.specs.declared.Header.TheVariants as header

@@ -166,6 +166,7 @@ fn trimmed_sides(x: Axis, y: Axis) -> Sides
 }
 
 // The scissor with its sides trimmed, where one of them still clips.
+#[tactic(auto, unfolding(crate::specs::Scissor::trim_of))]
 fn trim(scissor: RoundedBox, x: Axis, y: Axis) -> MaybeBox
     ensures { result ≡ trim_of scissor x y }
 {
@@ -175,6 +176,7 @@ fn trim(scissor: RoundedBox, x: Axis, y: Axis) -> MaybeBox
     MaybeBox::NoBox
 }
 
+#[tactic(auto, unfolding(crate::specs::Scissor::trimmed_scissor_of))]
 fn trimmed_scissor_unchecked(clip: RoundedBox, scissor: RoundedBox, fringe: f32) -> MaybeBox
     ensures { result ≡ trimmed_scissor_of clip scissor fringe }
 {

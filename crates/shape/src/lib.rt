@@ -141,6 +141,7 @@ impl RoundedBox {
     }
 
     // Whether a half extent or its radius is below 0, or the radius over the extent.
+    #[tactic(auto, unfolding(crate::specs::Checks::improper_side_of))]
     fn improper_side(extent: f32, radius: f32) -> bool
         ensures { result ≡ improper_side_of extent radius }
     {

@@ -67,6 +67,7 @@ impl Sides {
         self.lowx >= self.highx || self.lowy >= self.highy
     }
 
+    #[tactic(auto, unfolding(crate::specs::Shared::sides_are_of))]
     pub fn are(self, other: Self) -> bool
         ensures { result ≡ sides_are_of self other }
     {
@@ -121,6 +122,7 @@ pub fn both_square(one: RoundedBox, two: RoundedBox) -> bool
 
 // ---- rect_intersection
 
+#[tactic(auto, unfolding(crate::specs::Shared::rect_intersection_of))]
 fn rect_intersection_unchecked(one: RoundedBox, two: RoundedBox) -> MaybeBox
     ensures { result ≡ rect_intersection_of one two }
 {

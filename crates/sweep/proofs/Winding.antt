@@ -71,6 +71,12 @@ some : (m : ℕ) (e g : ℤ) → 0 ≡ suc m * up e * down g → ⊥
 some m e g h = let p : 0 < suc m * up e * down g = mul-pos (mul-pos (zero-lt-suc m) (up_pos e)) (down_pos g) in omega arith
 
 unique : (f : Format) (x y : Float) (s : Bool) (a c : ℕ) → 0 < c → T (fits f x) → T (fits f y) → HasValue x s a c → HasValue y s a c → x ≡ y
+unique f nan y s a c C p q v w = elim v [ ]
+unique f (inf _) y s a c C p q v w = elim v [ ]
+unique f (fin t zero e) nan s a c C p q v w = elim w [ ]
+unique f (fin t zero e) (inf _) s a c C p q v w = elim w [ ]
+unique f (fin t (suc m) e) nan s a c C p q v w = elim w [ ]
+unique f (fin t (suc m) e) (inf _) s a c C p q v w = elim w [ ]
 unique f (fin t zero e) (fin u zero g) s a c C p q v w = λ i. fin ((v.0 ∙ sym w.0) i) zero ((zero_exp f t e p ∙ sym (zero_exp f u g q)) i)
 unique f (fin t zero e) (fin u (suc n) g) s a c C p q v w =
     absurd (some n g e (sym (zero-mul (down g)) ∙ ap (λ (z : ℕ). z * down g) (sym (zero-mul (up e))) ∙ cross (0 * up e) (suc n * up g) c (down e) (down g) a C v.1 w.1))

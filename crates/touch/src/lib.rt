@@ -1,8 +1,7 @@
 // Touch: which frame of a list lies under a point. Added to femtovg's calls by document 01.
 //
-// `touch` is what is asked of each box, the walk over the lent boxes (crate boxes), and an end. The
-// borrow checker covers no function with a slice of structs, so it is proved by hand. `touch_floats` is
-// the same over lent floats, and is covered.
+// `touch` is what is asked of each box, the walk over the lent boxes (crate boxes), and an end.
+// `touch_floats` is the same over lent floats.
 #![tactic(auto)]
 
 ghost use Rattle.std.specs.Prelude.{◌*◌, ◌≤◌, length, ◌≡◌};

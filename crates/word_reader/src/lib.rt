@@ -112,8 +112,8 @@ fn place_behind(words: &[i32], at: usize) -> usize
     at + 1
 }
 
-// The word reader: the lent list and the place of its next word. The borrow checker covers no
-// function over it, so each is thin and its proof by hand; the work is done by those above.
+// The word reader: the lent list and the place of its next word. Each function over it is thin; the
+// work is done by those above.
 #[derive(Clone, Copy)]
 struct WordReader<'a> {
     words: &'a [i32],

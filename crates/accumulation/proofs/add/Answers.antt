@@ -1,11 +1,11 @@
 -- `accumulation::add` meets its contract: one cell changes, and it is marked. Assumes nothing.
-use mathlib.Core.Logic.{⊎_elim}
 use native.Mathlib.Omega.{arith}
 use lib.ListN.{length-set}
 use Rattle.accumulation.proofs.Marks.{ready_marked}
 use Rattle.accumulation.proofs.Adding.{add_in, add_none, add_out, set_apart}
 use borrow.Author.Rules.{rules}
 use Rattle.accumulation.proofs.add.Goals as goal
+use Rattle.accumulation.proofs.add.Goals.{else-cell-cells-via-then-cell-cells+else-area, else-cell-cells-via-else-cell-cells}
 
 pub mark-requires : goal.mark-requires
 mark-requires c =
@@ -26,9 +26,10 @@ returns-then-area c =
 pub returns-else-cell-cells : goal.returns-else-cell-cells
 returns-else-cell-cells c =
     let args = c.args in
-    let kept = ⊎_elim (λ both. add_none args.cells.now args.cell args.area both.1.left)
-    (λ past. add_out args.cells.now args.cell args.area past.left) c.else-cell-cells.branch in
     record {
-      cells_after = kept;
+      cells_after = elim c.else-cell-cells.branch [
+          else-cell-cells-via-then-cell-cells+else-area w ↦ add_none args.cells.now args.cell args.area w.if-area.false
+        | else-cell-cells-via-else-cell-cells w ↦ add_out args.cells.now args.cell args.area w.if-cell-cells.false
+        ];
       ready = c.requires;
     }

@@ -7,7 +7,7 @@ pub returns-then-last-cell : goal.returns-then-last-cell
 returns-then-last-cell c =
     let a = c.args in
     record {
-      cells_after = between_one a.cells.now a.cell a.last a.area a.per-cell a.enters a.head a.tail c.if-last-cell.true c.add.ensures.cells_after;
+      cells_after = between_one a.cells.now a.cell a.last a.area a.per_cell a.enters a.head a.tail c.if-last-cell.true c.add.ensures.cells_after;
       ready_2 = c.add.ensures.ready;
     }
 
@@ -15,7 +15,7 @@ pub returns-else-last-cell : goal.returns-else-last-cell
 returns-else-last-cell c =
     let a = c.args in
     record {
-      cells_after = between_more a.cells.now a.cell a.last a.area a.per-cell a.enters a.head a.tail c.if-last-cell.false
+      cells_after = between_more a.cells.now a.cell a.last a.area a.per_cell a.enters a.head a.tail c.if-last-cell.false
           c.add-else-last-cell.ensures.cells_after c.evenly.ensures.cells_after c.from_whole.ensures c.add-else-last-cell-2.ensures.cells_after;
       ready_2 = c.add-else-last-cell-2.ensures.ready;
     }

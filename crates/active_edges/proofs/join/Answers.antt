@@ -8,10 +8,6 @@ use Rattle.active_edges.proofs.Joining.{JoinAt, JoinRoom, join_start, join_room,
 use borrow.Author.Rules.{rules}
 use Rattle.active_edges.proofs.join.Goals as goal
 
--- in a turn
-room : (c : tie.In-loop invariant-loop decreases-loop) → JoinRoom c.before.loop.floats c.before.before.before.before.before.args.l c.before.loop.n c.before.loop.at
-room c = join_room c.before.before.before.before.before.requires c.before.loop.invariant c.loop-test.true
-
 pub offset_bounds-heads-row : goal.offset_bounds-heads-row
 offset_bounds-heads-row c = let i = c.requires.inside in search rules
 
@@ -28,40 +24,40 @@ pub loop-at-init : goal.loop-at-init
 loop-at-init c = join_start c.requires
 
 pub overflow_mul-k : goal.overflow_mul-k
-overflow_mul-k c = let r = room c in omega arith
+overflow_mul-k c = let r = join_room c.requires c.loop-at.invariant c.loop-at-test.true in omega arith
 
 pub overflow_add-l : goal.overflow_add-l
-overflow_add-l c = let r = room c in omega arith
+overflow_add-l c = let r = join_room c.requires c.loop-at.invariant c.loop-at-test.true in omega arith
 
 pub load-e-requires : goal.load-e-requires
-load-e-requires c = let r = room c in omega arith
+load-e-requires c = let r = join_room c.requires c.loop-at.invariant c.loop-at-test.true in omega arith
 
 pub overflow_mul-n : goal.overflow_mul-n
-overflow_mul-n c = let r = room c in omega arith
+overflow_mul-n c = let r = join_room c.requires c.loop-at.invariant c.loop-at-test.true in omega arith
 
 pub overflow_add-l-in-loop-at : goal.overflow_add-l-in-loop-at
-overflow_add-l-in-loop-at c = let r = room c in omega arith
+overflow_add-l-in-loop-at c = let r = join_room c.requires c.loop-at.invariant c.loop-at-test.true in omega arith
 
 pub store-requires : goal.store-requires
-store-requires c = let r = room c in omega arith
+store-requires c = let r = join_room c.requires c.loop-at.invariant c.loop-at-test.true in omega arith
 
 pub overflow_add-next : goal.overflow_add-next
-overflow_add-next c = let r = room c in omega arith
+overflow_add-next c = let r = join_room c.requires c.loop-at.invariant c.loop-at-test.true in omega arith
 
 pub offset_bounds-floats-next : goal.offset_bounds-floats-next
 offset_bounds-floats-next c =
-    let r = room c in
+    let r = join_room c.requires c.loop-at.invariant c.loop-at-test.true in
     let long = c.loop-at.invariant.long in
     scaled_Fits _ (length c.args.floats.now) 4 (omega arith) c.well_formed.0.1
 
 pub bounds-floats-next : goal.bounds-floats-next
 bounds-floats-next c =
-    let r = room c in
+    let r = join_room c.requires c.loop-at.invariant c.loop-at-test.true in
     let k = c.store.auto.floats in
     omega arith
 
 pub overflow_add-n : goal.overflow_add-n
-overflow_add-n c = let r = room c in omega arith
+overflow_add-n c = let r = join_room c.requires c.loop-at.invariant c.loop-at-test.true in omega arith
 
 pub loop-at-smaller : goal.loop-at-smaller
 loop-at-smaller c =

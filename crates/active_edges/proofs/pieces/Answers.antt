@@ -7,28 +7,24 @@ use Rattle.active_edges.proofs.RowEdges.{PiecesAt, PiecesRoom, row_start, row_ro
 use borrow.Author.Rules.{rules}
 use Rattle.active_edges.proofs.pieces.Goals as goal
 
--- in a turn
-room : (c : tie.In-loop invariant-loop decreases-loop) → PiecesRoom c.before.loop.floats c.before.before.before.before.args.l c.before.loop.i
-room c = row_room c.before.before.before.before.requires c.before.loop.invariant c.loop-test.true
-
 pub loop-i-init : goal.loop-i-init
 loop-i-init c = row_start c.requires
 
 pub overflow_mul-i : goal.overflow_mul-i
-overflow_mul-i c = let r = room c in omega arith
+overflow_mul-i c = let r = row_room c.requires c.loop-i.invariant c.loop-i-test.true in omega arith
 
 pub overflow_add-l : goal.overflow_add-l
-overflow_add-l c = let r = room c in omega arith
+overflow_add-l c = let r = row_room c.requires c.loop-i.invariant c.loop-i-test.true in omega arith
 
 pub load-e-requires : goal.load-e-requires
-load-e-requires c = let r = room c in omega arith
+load-e-requires c = let r = row_room c.requires c.loop-i.invariant c.loop-i-test.true in omega arith
 
 pub slice_bounds-piece-end : goal.slice_bounds-piece-end
-slice_bounds-piece-end c = let r = room c in omega arith
+slice_bounds-piece-end c = let r = row_room c.requires c.loop-i.invariant c.loop-i-test.true in omega arith
 
 pub slice_bounds-piece-end-in-loop-i : goal.slice_bounds-piece-end-in-loop-i
 slice_bounds-piece-end-in-loop-i c =
-    let r = room turn in
+    let r = row_room c.requires c.loop-i.invariant c.loop-i-test.true in
     sym (length-take-le c.args.l.width c.loop-i.floats (omega arith))
 
 pub piece-requires : goal.piece-requires
@@ -36,7 +32,7 @@ piece-requires c = c.loop-i.invariant.ready
 
 pub keep-kept-requires : goal.keep-kept-requires
 keep-kept-requires c =
-    let r = room turn in
+    let r = row_room c.requires c.loop-i.invariant c.loop-i-test.true in
     let f = c.loop-i.invariant.few in
     let m = length_front c.loop-i.floats c.piece.new.cells c.args.l.width c.piece.auto.cells in
     omega arith
@@ -53,4 +49,6 @@ pub shape_of-touched : goal.shape_of-touched
 shape_of-touched c = c.loop-i.invariant.touched_long
 
 pub returns : goal.returns
-returns c = row_done c.requires c.loop-i.invariant c.loop-i-test.false
+returns c =
+    let done = row_done c.requires c.loop-i.invariant c.loop-i-test.false in
+    record { pieces = done.0; active_row = done.1 }

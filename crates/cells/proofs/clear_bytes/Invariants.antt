@@ -1,9 +1,7 @@
 -- `cells::clear_bytes` meets its contract: cleared from the front. Assumes nothing.
 use Prim.Native.Nat.{◌-◌}
-use native.Mathlib.Omega.{arith}
 use lib.ListN.{length}
-use Rattle.cells.proofs.Cleared.{Cleared, cleared_none, cleared_more, cleared_all}
-use borrow.Author.Rules.{rules}
+use Rattle.cells.proofs.Cleared.{Cleared}
 use Rattle.cells.proofs.clear_bytes.Given as goal
 
 abbrev pub invariant-loop-i : goal.invariant-loop-i

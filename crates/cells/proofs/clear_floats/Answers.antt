@@ -1,10 +1,6 @@
 -- `cells::clear_floats` meets its contract: cleared from the front. Assumes nothing.
-use Prim.Native.Nat.{◌-◌}
 use native.Mathlib.Omega.{arith}
-use lib.ListN.{length}
-use Rattle.float.specs.Ops.{f0}
-use Rattle.cells.proofs.Cleared.{Cleared, cleared_none, cleared_more, cleared_all}
-use borrow.Author.Rules.{rules}
+use Rattle.cells.proofs.Cleared.{cleared_none, cleared_more, cleared_all}
 use Rattle.cells.proofs.clear_floats.Goals as goal
 
 pub loop-i-init : goal.loop-i-init

@@ -9,44 +9,31 @@ use Rattle.contour.specs.Contours.{contour_of}
 use Rattle.contour.proofs.Walking.{Walk, Inside, walk_start, walk_more, walk_end, walk_inside, last_there, points_read, positive}
 use Rattle.contour.proofs.contour.Goals as goal
 
--- where there is a point
-some : (c : tie.Else1 invariant-loop decreases-loop) → 0 < c.before.before.args.n
-some c = positive c.before.before.args.n c.if1.false
-
-last : (c : tie.Else1 invariant-loop decreases-loop) → let args = c.before.before.args in Inside args.words.now args.at args.n (args.at + 2 * args.n - 2)
-last c = let args = c.before.before.args in last_there args.words.now args.at args.n c.before.before.requires.0 (some c)
-
--- in a turn
-inside : (c : tie.In-loop invariant-loop decreases-loop) → let args = c.before.before.before.before.before.args in Inside args.words.now args.at args.n c.before.loop.next
-inside c =
-    let args = c.before.before.before.before.before.args in
-    walk_inside args.words.now args.at args.n c.before.before.before.before.before.requires.0 c.before.loop.invariant.1 c.loop-test.true
-
 pub returns-then-n-eq0 : goal.returns-then-n-eq0
 unfolding contour_of read_points
 returns-then-n-eq0 c = rw c.if-n-eq0.true pushed_none
 
 pub overflow_mul-end : goal.overflow_mul-end
-overflow_mul-end c = let p = last c in let h = some c in omega arith
+overflow_mul-end c = let p = last_there c.args.words.now c.args.at c.args.n c.requires.fine (positive c.args.n c.if-n-eq0.false) in let h = positive c.args.n c.if-n-eq0.false in omega arith
 
 pub overflow_add-end : goal.overflow_add-end
-overflow_add-end c = let p = last c in let h = some c in omega arith
+overflow_add-end c = let p = last_there c.args.words.now c.args.at c.args.n c.requires.fine (positive c.args.n c.if-n-eq0.false) in let h = positive c.args.n c.if-n-eq0.false in omega arith
 
 pub overflow_sub-last : goal.overflow_sub-last
-overflow_sub-last c = let h = some c in omega arith
+overflow_sub-last c = let h = positive c.args.n c.if-n-eq0.false in omega arith
 
 pub at-from-requires : goal.at-from-requires
-at-from-requires c = let p = (last c).there in
+at-from-requires c = let p = (last_there c.args.words.now c.args.at c.args.n c.requires.fine (positive c.args.n c.if-n-eq0.false)).there in
     record {
       at_in_bounds = omega arith;
       pos_value = (p.x_in_limit, p.y_in_limit);
     }
 
 pub loop-next-init : goal.loop-next-init
-loop-next-init c = (refl, walk_start (some c) c.at-from.ensures.0 c.at-from.ensures.1)
+loop-next-init c = (refl, walk_start (positive c.args.n c.if-n-eq0.false) c.at-from.ensures.0 c.at-from.ensures.1)
 
 pub at-to-requires : goal.at-to-requires
-at-to-requires c = let p = (inside c).there in
+at-to-requires c = let p = (walk_inside c.args.words.now c.args.at c.args.n c.requires.fine c.loop-next.invariant.1 c.loop-next-test.true).there in
     record {
       at_in_bounds = omega arith;
       pos_value = (p.x_in_limit, p.y_in_limit);
@@ -54,7 +41,7 @@ at-to-requires c = let p = (inside c).there in
 
 pub push-count-requires : goal.push-count-requires
 push-count-requires c =
-    let p = inside turn in
+    let p = walk_inside c.args.words.now c.args.at c.args.n c.requires.fine c.loop-next.invariant.1 c.loop-next-test.true in
     let i = c.loop-next.invariant in
     record {
       count_in_bounds = omega (arith, c.requires.n_in_bounds.0, i.0, i.1.place, i.1.pushed.few);
@@ -62,10 +49,10 @@ push-count-requires c =
     }
 
 pub overflow_add-next : goal.overflow_add-next
-overflow_add-next c = let p = inside c in omega arith
+overflow_add-next c = let p = walk_inside c.args.words.now c.args.at c.args.n c.requires.fine c.loop-next.invariant.1 c.loop-next-test.true in omega arith
 
 pub loop-next-smaller : goal.loop-next-smaller
-loop-next-smaller c = let p = inside c in omega arith
+loop-next-smaller c = let p = walk_inside c.args.words.now c.args.at c.args.n c.requires.fine c.loop-next.invariant.1 c.loop-next-test.true in omega arith
 
 pub loop-next-preserved : goal.loop-next-preserved
 loop-next-preserved c =

@@ -6,14 +6,6 @@ use Rattle.words.proofs.Places.{ContourThere, contour_there, contour_counted}
 use Rattle.contour.proofs.Several.{Going, going_start, next_room, going_more, going_end}
 use Rattle.contour.proofs.contours.Goals as goal
 
--- in a turn, where the count was read
-next : (c : tie.After-points invariant-loop decreases-loop) → let loop = c.before.before.before.before.loop in
-    ContourThere loop.remaining c.before.before.before.before.before.before.args.words.now loop.at c.points.given.0.0
-next c =
-    let loop = c.before.before.before.before.loop in
-    contour_there loop.remaining c.before.before.before.before.before.before.args.words.now loop.at c.before.before.before.loop-test.true loop.invariant.fine
-    c.before.before.count_at.ensures c.points.given.1
-
 pub loop-remaining-init : goal.loop-remaining-init
 loop-remaining-init c = going_start c.requires.fine c.requires.from_in_bounds
 
@@ -26,31 +18,33 @@ returns-in_default c =
     c.count_at.ensures c.in_default.is)
 
 pub overflow_add-at : goal.overflow_add-at
-overflow_add-at c = let n = next c in omega arith
+overflow_add-at c = let n = contour_there c.loop-remaining.remaining c.args.words.now c.loop-remaining.at c.loop-remaining-test.true c.loop-remaining.invariant.fine c.count_at.ensures c.in-Count.is in omega arith
 
 pub contour-count-requires : goal.contour-count-requires
 contour-count-requires c =
-    let n = next known in
+    let n = contour_there c.loop-remaining.remaining c.args.words.now c.loop-remaining.at c.loop-remaining-test.true c.loop-remaining.invariant.fine c.count_at.ensures c.in-Count.is in
     record {
       fine = n.points;
       n_in_bounds = (next_room c.loop-remaining.invariant n c.requires.n_in_bounds.0, c.requires.n_in_bounds.1);
     }
 
 pub overflow_add-at-in-loop-remaining : goal.overflow_add-at-in-loop-remaining
-overflow_add-at-in-loop-remaining c = let n = next c in omega arith
+overflow_add-at-in-loop-remaining c = let n = contour_there c.loop-remaining.remaining c.args.words.now c.loop-remaining.at c.loop-remaining-test.true c.loop-remaining.invariant.fine c.count_at.ensures c.in-Count.is in omega arith
 
 pub overflow_mul-at : goal.overflow_mul-at
-overflow_mul-at c = let n = next c in omega arith
+overflow_mul-at c = let n = contour_there c.loop-remaining.remaining c.args.words.now c.loop-remaining.at c.loop-remaining-test.true c.loop-remaining.invariant.fine c.count_at.ensures c.in-Count.is in omega arith
 
 pub overflow_add-at-in-loop-remaining-2 : goal.overflow_add-at-in-loop-remaining-2
-overflow_add-at-in-loop-remaining-2 c = let n = next c in omega arith
+overflow_add-at-in-loop-remaining-2 c = let n = contour_there c.loop-remaining.remaining c.args.words.now c.loop-remaining.at c.loop-remaining-test.true c.loop-remaining.invariant.fine c.count_at.ensures c.in-Count.is in omega arith
 
 pub loop-remaining-preserved : goal.loop-remaining-preserved
 loop-remaining-preserved c =
-    going_more c.loop-remaining.invariant (next known) c.contour-count.auto.1.1.1.0 c.contour-count.ensures
+    going_more c.loop-remaining.invariant (contour_there c.loop-remaining.remaining c.args.words.now c.loop-remaining.at c.loop-remaining-test.true c.loop-remaining.invariant.fine c.count_at.ensures c.in-Count.is) c.contour-count.auto.floats c.contour-count.ensures
 
 pub shape_of-floats : goal.shape_of-floats
 shape_of-floats c = c.loop-remaining.invariant.long
 
 pub returns : goal.returns
-returns c = going_end c.loop-remaining.invariant c.loop-remaining-test.false
+returns c =
+    let end = going_end c.loop-remaining.invariant c.loop-remaining-test.false in
+    record { pushed = end.0; at_value = end.1 }

@@ -7,11 +7,10 @@ use Rattle.coverage.proofs.resolve.Goals as goal
 
 pub returns-then-height-eq0 : goal.returns-then-height-eq0
 returns-then-height-eq0 c =
-    let pre = c.requires.1 in
     record {
-      mask_after = (λ g h. no_rows c.args.size g c.if-height-eq0.true);
-      clean_2 = pre.0;
-      ink_kept_2 = pre.1.1;
+      mask_after = λ g h. no_rows c.args.size g c.if-height-eq0.true;
+      clean_2 = c.requires.clean;
+      ink_kept_2 = c.requires.ink_kept;
     }
 
 pub table-requires : goal.table-requires
@@ -37,4 +36,8 @@ pub returns : goal.returns
 returns c =
     let words = c.mark_words-words.ensures in
     let rows = group_rows c.requires.room c.requires.clean c.requires.count_le_points.0 words c.table.ensures.in_table c.table.ensures.nexts_changed c.table.auto.heads in
-    ((λ g h. c.draw_rows.ensures.mask_after ∙ rows g h), c.draw_rows.ensures.1)
+    record {
+      mask_after = λ g h. c.draw_rows.ensures.mask_after ∙ rows g h;
+      clean_2 = c.draw_rows.ensures.clean;
+      ink_kept_2 = c.draw_rows.ensures.ink_kept_2;
+    }

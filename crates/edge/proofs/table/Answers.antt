@@ -8,26 +8,23 @@ use Rattle.edge.proofs.Linking.{TableAt, TableRoom, table_start, table_room, tab
 use borrow.Author.Rules.{rules}
 use Rattle.edge.proofs.table.Goals as goal
 
--- in a turn
-room : (c : tie.In-loop invariant-loop decreases-loop) → TableRoom c.before.loop.floats c.before.before.before.before.args.l c.before.loop.i
-room c = table_room c.before.before.before.before.requires.0 c.before.loop.invariant c.loop-test.true
-
 pub loop-i-init : goal.loop-i-init
 loop-i-init c = table_start c.requires.placed c.requires.by_index
 
 pub overflow_mul-i : goal.overflow_mul-i
-overflow_mul-i c = let r = room c in omega arith
+overflow_mul-i c = let r = table_room c.requires.placed c.loop-i.invariant c.loop-i-test.true in omega arith
 
 pub overflow_add-l : goal.overflow_add-l
-overflow_add-l c = let r = room c in omega arith
+overflow_add-l c = let r = table_room c.requires.placed c.loop-i.invariant c.loop-i-test.true in omega arith
 
 pub load-e-requires : goal.load-e-requires
-load-e-requires c = let r = room c in omega arith
+load-e-requires c = let r = table_room c.requires.placed c.loop-i.invariant c.loop-i-test.true in omega arith
 
 pub link-requires : goal.link-requires
 link-requires c =
-    table_link c.requires.placed c.loop-i.invariant c.loop-i-test.true c.requires.by_index_2
-    (c.start_row.ensures ∙ ap start_row c.load-e.ensures)
+    let linked = table_link c.requires.placed c.loop-i.invariant c.loop-i-test.true c.requires.by_index_2
+        (c.start_row.ensures ∙ ap start_row c.load-e.ensures) in
+    record { i_in_bounds = linked.0; row_bound = linked.1 }
 
 pub loop-i-preserved : goal.loop-i-preserved
 loop-i-preserved c =

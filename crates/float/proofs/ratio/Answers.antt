@@ -1,7 +1,7 @@
 -- `float::ratio` meets its contract. Assumes nothing.
 use Rattle.float.specs.Arctan.{ratio_of}
-use Rattle.std.proofs.Common.{⊎_elim}
 use Rattle.float.proofs.ratio.Goals as goal
+use Rattle.float.proofs.ratio.Goals.{else-ax-via-then-ax+else-ay, else-ax-via-else-ax}
 
 pub returns-then-ay : goal.returns-then-ay
 unfolding ratio_of
@@ -10,11 +10,15 @@ returns-then-ay c = rw (c.if-ax.true, c.if-ay.true)
 pub returns-then-ax-ay : goal.returns-then-ax-ay
 unfolding ratio_of
 returns-then-ax-ay c =
-    let smaller = c.if-ax-ay.true in
-    ⊎_elim (λ w. rw (w.0.taken, w.1.left, smaller)) (λ w. rw (w.left, smaller)) c.else-ax.branch
+    elim c.else-ax.branch [
+      else-ax-via-then-ax+else-ay w ↦ rw (w.if-ax.true, w.if-ay.false, c.if-ax-ay.true)
+    | else-ax-via-else-ax w ↦ rw (w.if-ax.false, c.if-ax-ay.true)
+    ]
 
 pub returns : goal.returns
 unfolding ratio_of
 returns c =
-    let larger = c.if-ax-ay.false in
-    ⊎_elim (λ w. rw (w.0.taken, w.1.left, larger)) (λ w. rw (w.left, larger)) c.else-ax.branch
+    elim c.else-ax.branch [
+      else-ax-via-then-ax+else-ay w ↦ rw (w.if-ax.true, w.if-ay.false, c.if-ax-ay.false)
+    | else-ax-via-else-ax w ↦ rw (w.if-ax.false, c.if-ax-ay.false)
+    ]

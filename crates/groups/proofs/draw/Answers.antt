@@ -32,10 +32,9 @@ returns c =
     let room = c.requires.room in
     let floats = c.clear_floats.ensures in
     let counters = c.clear_counters.ensures in
-    let kept = c.draw_groups.auto.1.1 in
     record {
       mask_after = c.draw_groups.ensures.mask_after;
-      floats_after = c.clear_floats-2.ensures ∙ ap (λ (n : ℕ). replicate n f0) (kept.0 ∙ floats_long room bytes floats counters);
-      counters_after = c.clear_counters-2.ensures ∙ ap (λ (n : ℕ). replicate n 0) (kept.1.0 ∙ counters_long room bytes floats counters);
+      floats_after = c.clear_floats-2.ensures ∙ ap (λ (n : ℕ). replicate n f0) (c.draw_groups.auto.floats ∙ floats_long room bytes floats counters);
+      counters_after = c.clear_counters-2.ensures ∙ ap (λ (n : ℕ). replicate n 0) (c.draw_groups.auto.counters ∙ counters_long room bytes floats counters);
       ink_after = kept_all c.draw_groups.ensures.ink_kept_2;
     }

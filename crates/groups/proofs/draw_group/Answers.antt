@@ -16,8 +16,7 @@ pub contours-stored-requires : goal.contours-stored-requires
 contours-stored-requires c =
     let room = c.requires.room in
     let group = c.requires.group_fine in
-    let count = c.contours-1.given in
-    let read = group_read group c.head_at-head.ensures.1 count.1 in
+    let read = group_read group c.head_at-head.ensures.1 c.in-Count.is in
     record {
       fine = contours_fine room group read;
       from_in_bounds = contours_inside room group read;
@@ -29,10 +28,9 @@ resolve-requires c =
     let args = c.args in
     let room = c.requires.room in
     let group = c.requires.group_fine in
-    let count = c.contours-1.given in
-    let long = c.contours-stored.auto.1.1.1.0 in
+    let long = c.contours-stored.auto.floats in
     let rule = c.head_at-head.ensures.0 ∙ ap is_even_odd (sym (word_here args.words.now args.at group.inside)) in
-    let read = group_read group c.head_at-head.ensures.1 count.1 in
+    let read = group_read group c.head_at-head.ensures.1 c.in-Count.is in
     record {
       room = stored_room room group read long c.contours-stored.ensures.pushed;
       clean = stored_clean room group read long c.contours-stored.ensures.pushed c.requires.clean;
@@ -42,12 +40,14 @@ resolve-requires c =
 
 pub returns : goal.returns
 returns c =
-    let count = c.contours-1.given in
     let args = c.args in
     let room = c.requires.room in
     let group = c.requires.group_fine in
     let rule = c.head_at-head.ensures.0 ∙ ap is_even_odd (sym (word_here args.words.now args.at group.inside)) in
-    let read = group_read group c.head_at-head.ensures.1 count.1 in (
-      c.resolve.ensures.mask_after (group_at args.words.now args.at) (stored room group read c.contours-stored.auto.1.1.1.0 c.contours-stored.ensures.pushed rule),
-      (c.contours-stored.ensures.at_value ∙ contours_end room group read, c.resolve.ensures.1),
-    )
+    let read = group_read group c.head_at-head.ensures.1 c.in-Count.is in
+    record {
+      mask_after = c.resolve.ensures.mask_after (group_at args.words.now args.at) (stored room group read c.contours-stored.auto.floats c.contours-stored.ensures.pushed rule);
+      value = c.contours-stored.ensures.at_value ∙ contours_end room group read;
+      clean_2 = c.resolve.ensures.clean_2;
+      ink_kept_2 = c.resolve.ensures.ink_kept_2;
+    }

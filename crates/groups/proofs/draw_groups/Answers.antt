@@ -8,8 +8,7 @@ use Rattle.groups.proofs.draw_groups.Goals as goal
 
 pub loop-at-init : goal.loop-at-init
 loop-at-init c =
-    let list = c.requires.1.1.1 in
-    (standing_start c.requires.room c.requires.clean c.requires.mask_value list.0, list.1)
+    (standing_start c.requires.room c.requires.clean c.requires.mask_value c.requires.list_counted, c.requires.ink_kept)
 
 pub draw_group-at-requires : goal.draw_group-at-requires
 draw_group-at-requires c =
@@ -32,9 +31,8 @@ loop-at-smaller c =
 
 pub loop-at-preserved : goal.loop-at-preserved
 loop-at-preserved c =
-    let kept = c.draw_group-at.auto in
     let more = c.loop-at-test.true in
-    (standing_more c.requires.room c.loop-at.invariant.0 more kept.0 kept.1.1.0 kept.1.1.1.0 c.draw_group-at.ensures.mask_after c.draw_group-at.ensures.value c.draw_group-at.ensures.clean_2, c.draw_group-at.ensures.ink_kept_2)
+    (standing_more c.requires.room c.loop-at.invariant.0 more c.draw_group-at.auto.mask c.draw_group-at.auto.floats c.draw_group-at.auto.counters c.draw_group-at.ensures.mask_after c.draw_group-at.ensures.value c.draw_group-at.ensures.clean_2, c.draw_group-at.ensures.ink_kept_2)
 
 pub shape_of-mask : goal.shape_of-mask
 shape_of-mask c = c.loop-at.invariant.0.mask_long

@@ -1,10 +1,9 @@
 -- `ink::blank` meets its contract: while what is or-ed is 0, so is each byte passed. Assumes nothing.
 use mathlib.Core.Path.{◌≡◌}
-use Prim.Native.Nat.{ℕ, ◌-◌, ◌≤◌, ◌<◌}
+use Prim.Native.Nat.{ℕ}
 use native.Mathlib.Omega.{arith}
-use lib.ListN.{length, get_or}
+use lib.ListN.{get_or}
 use borrow.Author.Count.{below_more}
-use borrow.Author.Rules.{rules}
 use borrow.Author.Tests.{eqb-true}
 use Rattle.ink.proofs.Bytes.{or_none}
 use Rattle.ink.proofs.blank.Goals as goal
@@ -20,4 +19,4 @@ loop-i-preserved c =
     )
 
 pub returns : goal.returns
-returns c = c.loop-i.invariant.1 (eqb-true c.loop-i.all 0 e) k (omega arith)
+returns c = λ e k k0 h. c.loop-i.invariant.1 (eqb-true c.loop-i.all 0 e) k (omega arith)

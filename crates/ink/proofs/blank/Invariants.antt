@@ -1,12 +1,7 @@
 -- `ink::blank` meets its contract: while what is or-ed is 0, so is each byte passed. Assumes nothing.
 use mathlib.Core.Path.{◌≡◌}
 use Prim.Native.Nat.{ℕ, ◌-◌, ◌≤◌, ◌<◌}
-use native.Mathlib.Omega.{arith}
 use lib.ListN.{length, get_or}
-use borrow.Author.Count.{below_more}
-use borrow.Author.Rules.{rules}
-use borrow.Author.Tests.{eqb-true}
-use Rattle.ink.proofs.Bytes.{or_none}
 use Rattle.ink.proofs.blank.Given as goal
 
 abbrev pub invariant-loop-i : goal.invariant-loop-i

@@ -1,10 +1,6 @@
 -- `ink::blank_back` meets its contract: no byte from `to` up to the end has ink. Assumes nothing.
 use Prim.Native.Nat.{◌-◌}
 use native.Mathlib.Omega.{arith}
-use lib.ListN.{length}
-use borrow.Author.Rules.{rules}
-use borrow.Author.Tests.{not-false}
-use Rattle.ink.specs.Steps.{Passed}
 use Rattle.ink.proofs.Bytes.{passed_none, passed_more, part_blank}
 use Rattle.ink.proofs.blank_back.Goals as goal
 
@@ -27,7 +23,7 @@ loop-to-preserved c =
     let block = c.args.block in
     let u = c.loop-to.invariant.up in
     let w = c.loop-to.invariant.within in
-    let z = c.blank.ensures (not-false c.blank.result c.if-not-blank.false) in
+    let z = c.blank.ensures c.if-not-blank.false in
     passed_more (part_blank line (c.loop-to.to - block) c.loop-to.to (omega arith) (omega arith) z) c.loop-to.invariant
 
 pub returns : goal.returns

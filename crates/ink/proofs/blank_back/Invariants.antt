@@ -1,11 +1,5 @@
 -- `ink::blank_back` meets its contract: no byte from `to` up to the end has ink. Assumes nothing.
-use Prim.Native.Nat.{◌-◌}
-use native.Mathlib.Omega.{arith}
-use lib.ListN.{length}
-use borrow.Author.Rules.{rules}
-use borrow.Author.Tests.{not-false}
 use Rattle.ink.specs.Steps.{Passed}
-use Rattle.ink.proofs.Bytes.{passed_none, passed_more, part_blank}
 use Rattle.ink.proofs.blank_back.Given as goal
 
 abbrev pub invariant-loop-to : goal.invariant-loop-to

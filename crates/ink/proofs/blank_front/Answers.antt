@@ -1,10 +1,6 @@
 -- `ink::blank_front` meets its contract: no byte from the first up to `from` has ink. Assumes nothing.
-use Prim.Native.Nat.{◌+◌, ◌-◌}
+use Prim.Native.Nat.{◌+◌}
 use native.Mathlib.Omega.{arith}
-use lib.ListN.{length}
-use borrow.Author.Rules.{rules}
-use borrow.Author.Tests.{not-false}
-use Rattle.ink.specs.Steps.{Passed}
 use Rattle.ink.proofs.Bytes.{passed_none, passed_more, part_blank}
 use Rattle.ink.proofs.blank_front.Goals as goal
 
@@ -31,7 +27,7 @@ loop-from-preserved c =
     let line = c.args.line.now in
     let block = c.args.block in
     let w = c.loop-from.invariant.within in
-    let z = c.blank.ensures (not-false c.blank.result c.if-not-blank.false) in
+    let z = c.blank.ensures c.if-not-blank.false in
     passed_more c.loop-from.invariant (part_blank line c.loop-from.from (c.loop-from.from + block) (omega arith) (omega arith) z)
 
 pub returns : goal.returns

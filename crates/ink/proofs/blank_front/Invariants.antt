@@ -1,11 +1,7 @@
 -- `ink::blank_front` meets its contract: no byte from the first up to `from` has ink. Assumes nothing.
-use Prim.Native.Nat.{◌+◌, ◌-◌}
-use native.Mathlib.Omega.{arith}
+use Prim.Native.Nat.{◌-◌}
 use lib.ListN.{length}
-use borrow.Author.Rules.{rules}
-use borrow.Author.Tests.{not-false}
 use Rattle.ink.specs.Steps.{Passed}
-use Rattle.ink.proofs.Bytes.{passed_none, passed_more, part_blank}
 use Rattle.ink.proofs.blank_front.Given as goal
 
 abbrev pub invariant-loop-from : goal.invariant-loop-from

@@ -1,10 +1,8 @@
 -- `ink::end_in` meets its contract. Assumes nothing.
 use mathlib.Core.Path.{refl}
-use Prim.Native.Nat.{◌+◌, ◌-◌}
+use Prim.Native.Nat.{◌+◌}
 use native.Mathlib.Omega.{arith}
-use lib.ListN.{length}
-use borrow.Author.Rules.{rules}
-use Rattle.ink.proofs.Blocks.{EndSoFar, end_turn}
+use Rattle.ink.proofs.Blocks.{end_turn}
 use Rattle.ink.proofs.end_in.Goals as goal
 
 pub loop-i-init : goal.loop-i-init

@@ -1,10 +1,7 @@
 -- `ink::end_in` meets its contract. Assumes nothing.
-use mathlib.Core.Path.{refl}
-use Prim.Native.Nat.{◌+◌, ◌-◌}
-use native.Mathlib.Omega.{arith}
+use Prim.Native.Nat.{◌-◌}
 use lib.ListN.{length}
-use borrow.Author.Rules.{rules}
-use Rattle.ink.proofs.Blocks.{EndSoFar, end_turn}
+use Rattle.ink.proofs.Blocks.{EndSoFar}
 use Rattle.ink.proofs.end_in.Given as goal
 
 abbrev pub invariant-loop-i : goal.invariant-loop-i

@@ -1,10 +1,6 @@
 -- `ink::end_ink` meets its contract: no byte from `i` on has ink. Assumes nothing.
-use Prim.Native.Nat.{◌+◌, ◌-◌, ◌<◌}
-use native.Mathlib.Omega.{arith}
 use lib.ListN.{length}
-use borrow.Author.Rules.{rules}
 use Rattle.ink.specs.Steps.{Passed}
-use Rattle.ink.proofs.Bytes.{passed_more, passed_back}
 use Rattle.ink.proofs.end_ink.Given as goal
 
 abbrev pub invariant-loop-i : goal.invariant-loop-i

@@ -1,10 +1,7 @@
 -- `ink::first_in` meets its contract. Assumes nothing.
 use mathlib.Core.Path.{refl}
-use Prim.Native.Nat.{◌-◌, ◌≤◌}
 use native.Mathlib.Omega.{arith}
-use lib.ListN.{length}
-use borrow.Author.Rules.{rules}
-use Rattle.ink.proofs.Blocks.{FirstSoFar, first_turn}
+use Rattle.ink.proofs.Blocks.{first_turn}
 use Rattle.ink.proofs.first_in.Goals as goal
 
 pub loop-i-init : goal.loop-i-init

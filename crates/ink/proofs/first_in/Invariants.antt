@@ -1,10 +1,7 @@
 -- `ink::first_in` meets its contract. Assumes nothing.
-use mathlib.Core.Path.{refl}
-use Prim.Native.Nat.{◌-◌, ◌≤◌}
-use native.Mathlib.Omega.{arith}
+use Prim.Native.Nat.{◌-◌}
 use lib.ListN.{length}
-use borrow.Author.Rules.{rules}
-use Rattle.ink.proofs.Blocks.{FirstSoFar, first_turn}
+use Rattle.ink.proofs.Blocks.{FirstSoFar}
 use Rattle.ink.proofs.first_in.Given as goal
 
 abbrev pub invariant-loop-i : goal.invariant-loop-i

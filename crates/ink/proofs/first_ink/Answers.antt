@@ -1,14 +1,10 @@
 -- `ink::first_ink` meets its contract: no byte before `i` has ink. Assumes nothing.
-use Prim.Native.Nat.{◌-◌}
 use native.Mathlib.Omega.{arith}
-use lib.ListN.{length}
-use borrow.Author.Rules.{rules}
-use Rattle.ink.specs.Steps.{Passed}
 use Rattle.ink.proofs.Bytes.{passed_more, passed_one}
 use Rattle.ink.proofs.first_ink.Goals as goal
 
 pub loop-i-init : goal.loop-i-init
-loop-i-init c = c.?IsNear-first.ensures
+loop-i-init c = c.near_first-i.ensures
 
 pub returns-then-line-i-ne0 : goal.returns-then-line-i-ne0
 returns-then-line-i-ne0 c =

@@ -1,10 +1,7 @@
 -- `ink::first_ink` meets its contract: no byte before `i` has ink. Assumes nothing.
 use Prim.Native.Nat.{◌-◌}
-use native.Mathlib.Omega.{arith}
 use lib.ListN.{length}
-use borrow.Author.Rules.{rules}
 use Rattle.ink.specs.Steps.{Passed}
-use Rattle.ink.proofs.Bytes.{passed_more, passed_one}
 use Rattle.ink.proofs.first_ink.Given as goal
 
 abbrev pub invariant-loop-i : goal.invariant-loop-i

@@ -1,19 +1,17 @@
 -- `ink::grown` meets its contract, by the law that pins a row's stretch. Assumes nothing.
 use Prim.Native.Nat.{◌<◌}
 use native.Mathlib.Omega.{arith}
-use lib.ListN.{length-take, length-drop}
-use borrow.Author.Rules.{rules}
 use Rattle.ink.proofs.Growing.{grown_none, part_low, part_none, grown_first, grown_more}
 use Rattle.ink.proofs.grown.Goals as goal
 
 pub returns-then-to-from : goal.returns-then-to-from
-returns-then-to-from c = grown_none (λ k h l. absurd (omega arith))
+returns-then-to-from c = λ before e g. grown_none (λ k h l. absurd (omega arith)) e g
 
 pub returns-then-part-eq0 : goal.returns-then-part-eq0
-returns-then-part-eq0 c =
+returns-then-part-eq0 c = λ before e g.
     let args = c.args in
     let up : args.from < args.to = omega arith in
-    grown_none (part_none args.line.now args.from args.to up (omega arith) c.ink_of-part.ensures (omega arith))
+    grown_none (part_none args.line.now args.from args.to up (omega arith) c.ink_of-part.ensures (omega arith)) e g
 
 pub overflow_add-first : goal.overflow_add-first
 overflow_add-first c =
@@ -30,13 +28,13 @@ overflow_add-behind c =
     omega arith
 
 pub returns-then-old-eq0 : goal.returns-then-old-eq0
-returns-then-old-eq0 c =
+returns-then-old-eq0 c = λ before is g.
     let args = c.args in
     let up : args.from < args.to = omega arith in
     grown_first args.line.now args.from args.to up (omega arith) c.ink_of-part.ensures (λ z. omega arith) g is (omega arith)
 
 pub returns : goal.returns
-returns c =
+returns c = λ before is g.
     let args = c.args in
     let up : args.from < args.to = omega arith in
     grown_more args.line.now args.from args.to up (omega arith) c.ink_of-part.ensures (λ z. omega arith) g is (λ z. omega arith)

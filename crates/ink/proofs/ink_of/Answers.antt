@@ -1,7 +1,6 @@
 -- `ink::ink_of` meets its contract, by the law that pins a row's stretch. Assumes nothing.
 use Prim.Native.Nat.{◌<◌}
 use native.Mathlib.Omega.{arith}
-use borrow.Author.Rules.{rules}
 use Rattle.ink.proofs.Bytes.{zeros_from}
 use Rattle.ink.proofs.Stretches.{found_none, found}
 use Rattle.ink.proofs.ink_of.Goals as goal

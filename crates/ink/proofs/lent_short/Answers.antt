@@ -1,7 +1,6 @@
 -- `ink::lent_short` meets its contract. Assumes nothing.
 use mathlib.Core.Path.{refl, sym}
 use native.Mathlib.Omega.{arith}
-use borrow.Author.Rules.{rules}
 use borrow.Author.Tests.{lt-ltb, le-ltb}
 use Rattle.cells.specs.Cells.{cells_of}
 use Rattle.cells.proofs.Sizes.{allowed_small, cells_fit}

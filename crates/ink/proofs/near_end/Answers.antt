@@ -2,8 +2,6 @@
 use mathlib.Core.Path.{◌≡◌}
 use Prim.Native.Nat.{◌+◌, ◌-◌}
 use native.Mathlib.Omega.{arith}
-use lib.ListN.{length}
-use borrow.Author.Rules.{rules}
 use Rattle.ink.proofs.Bytes.{passed_more, part_long, part_passed}
 use Rattle.ink.proofs.near_end.Goals as goal
 

@@ -1,9 +1,7 @@
 -- `ink::scan` meets its contract: row by row, what is left to do is done as before. Assumes nothing.
-use Prim.Native.Nat.{◌-◌}
 use native.Mathlib.Omega.{arith}
 use lib.ListN.{length-take, length-drop, length-set}
-use borrow.Author.Rules.{rules}
-use Rattle.ink.proofs.Scans.{AtRow, rows_start, rows_done, line_room, rows_turn}
+use Rattle.ink.proofs.Scans.{rows_start, rows_done, line_room, rows_turn}
 use Rattle.ink.proofs.scan.Goals as goal
 
 pub loop-row-init : goal.loop-row-init

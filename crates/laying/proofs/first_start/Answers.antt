@@ -1,7 +1,7 @@
 -- `laying::first_start` meets its contract. Assumes nothing.
 use mathlib.Core.Path.{◌≡◌}
+use Prim.Native.Nat.{ℕ, ◌≤◌}
 use native.Mathlib.Omega.{arith}
-use borrow.Author.Rules.{rules}
 use lib.IntN.{ℤ, pos, ◌*ℤ◌}
 use mir.Syntax.{w32, w64}
 use mir.Val.{SFits, to_z, of_z}
@@ -10,24 +10,20 @@ use Rattle.laying.proofs.Offsets.{wider}
 use Rattle.laying.proofs.Starts.{first_fits}
 use Rattle.laying.proofs.first_start.Goals as goal
 
-module _ (s : tie.Start) where
-  abbrev product : ℤ
-  product = s.args.offset *ℤ pos s.args.width
+offset_is : (offset : ℤ) → SFits w32 offset → to_z w64 (of_z w64 (to_z w32 (of_z w32 offset))) ≡ offset
+offset_is offset fits = rw (to_z-of_z w32 offset fits) (to_z-of_z w64 offset (wider offset fits))
 
-  product_fits : SFits w64 product
-  product_fits = first_fits s.args.offset s.args.width s.fits.offset s.pre
-
-  offset_is : to_z w64 (of_z w64 (to_z w32 (of_z w32 s.args.offset))) ≡ s.args.offset
-  offset_is = rw (to_z-of_z w32 s.args.offset s.fits.offset) (to_z-of_z w64 s.args.offset (wider s.args.offset s.fits.offset))
-
-  width_is : to_z w64 s.args.width ≡ pos s.args.width
-  width_is = to_z_pos w64 s.args.width (omega arith)
+width_is : (width : ℕ) → width ≤ 4096 → to_z w64 width ≡ pos width
+width_is width h = to_z_pos w64 width (omega arith)
 
 pub overflow_cast-result : goal.overflow_cast-result
 overflow_cast-result c = rw (to_z-of_z w32 c.args.offset c.ranges.offset) (wider c.args.offset c.ranges.offset)
 
 pub overflow_mul-result : goal.overflow_mul-result
-overflow_mul-result c = rw (offset_is c, width_is c) (product_fits c)
+overflow_mul-result c =
+    rw (offset_is c.args.offset c.ranges.offset, width_is c.args.width c.requires) (first_fits c.args.offset c.args.width c.ranges.offset c.requires)
 
 pub returns : goal.returns
-returns c = rw (offset_is c, width_is c) (to_z-of_z w64 (product c) (product_fits c))
+returns c =
+    rw (offset_is c.args.offset c.ranges.offset, width_is c.args.width c.requires)
+    (to_z-of_z w64 (c.args.offset *ℤ pos c.args.width) (first_fits c.args.offset c.args.width c.ranges.offset c.requires))

@@ -1,6 +1,5 @@
 -- `laying::lay_byte` meets its contract. Assumes nothing.
 use native.Mathlib.Omega.{arith}
-use borrow.Author.Rules.{rules}
 use Rattle.laying.proofs.Cells.{product_small}
 use Rattle.laying.proofs.lay_byte.Goals as goal
 

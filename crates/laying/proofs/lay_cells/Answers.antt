@@ -1,11 +1,8 @@
 -- `laying::lay_cells` meets its contract: what is left to do is done as before. Assumes nothing.
-use mathlib.Core.Path.{◌≡◌, refl, sym, ◌∙◌}
-use Prim.Native.Nat.{◌-◌, ◌≤◌}
+use mathlib.Core.Path.{refl, sym, ◌∙◌}
 use native.Mathlib.Omega.{arith}
-use lib.ListN.{length, length-set}
-use borrow.Author.Rules.{rules}
-use Rattle.laying.specs.Lines.{under_of}
-use Rattle.laying.proofs.Cells.{laid, laid_more, laid_all}
+use lib.ListN.{length-set}
+use Rattle.laying.proofs.Cells.{laid_more, laid_all}
 use Rattle.laying.proofs.lay_cells.Goals as goal
 
 pub loop-i-init : goal.loop-i-init

@@ -1,11 +1,9 @@
 -- `laying::lay_cells` meets its contract: what is left to do is done as before. Assumes nothing.
-use mathlib.Core.Path.{◌≡◌, refl, sym, ◌∙◌}
+use mathlib.Core.Path.{◌≡◌}
 use Prim.Native.Nat.{◌-◌, ◌≤◌}
-use native.Mathlib.Omega.{arith}
-use lib.ListN.{length, length-set}
-use borrow.Author.Rules.{rules}
+use lib.ListN.{length}
 use Rattle.laying.specs.Lines.{under_of}
-use Rattle.laying.proofs.Cells.{laid, laid_more, laid_all}
+use Rattle.laying.proofs.Cells.{laid}
 use Rattle.laying.proofs.lay_cells.Given as goal
 
 abbrev pub invariant-loop-i : goal.invariant-loop-i

@@ -6,7 +6,6 @@ use native.Mathlib.Omega.{arith}
 use lib.ListN.{length, replicate, length-take}
 use lib.Seq.{length-take-le}
 use Rattle.laying.proofs.Cells.{under_over, rest_lent, rest_put}
-use borrow.Author.Rules.{rules}
 use Rattle.laying.proofs.lay_front.Goals as goal
 
 pub slice_bounds-lay_cells-end-2 : goal.slice_bounds-lay_cells-end-2

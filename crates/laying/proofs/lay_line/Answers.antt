@@ -7,7 +7,6 @@ use lib.ListN.{length}
 use lib.Seq.{length-take-le}
 use Rattle.laying.specs.Lines.{under_of}
 use Rattle.laying.proofs.Cells.{line_before, line_past, rest_lent, rest_put, drop_lent}
-use borrow.Author.Rules.{rules}
 use Rattle.laying.proofs.lay_line.Goals as goal
 
 pub returns-then-line-own : goal.returns-then-line-own

@@ -5,34 +5,26 @@ use mathlib.Core.Path.{sym, ◌∙◌}
 use borrow.Author.Rules.{rules}
 use Rattle.outline.specs.Outline.{most_verbs, most_points}
 use Rattle.outline.proofs.Scan.{floats_next}
-use Rattle.outline.proofs.Contouring.{Walking, begins, count_is, most, bad_byte, room, stops, goes}
+use Rattle.outline.proofs.Contouring.{Walking, begins, has_room, bad_byte, room, stops, goes}
 use Rattle.outline.proofs.Ends.{Ends, no_ends, ends_kept, ends_all}
 use lib.ListN.{length}
 use native.Mathlib.Omega.{arith}
 use Rattle.outline.proofs.contour.Goals as goal
 
--- there is room for one point more
-module _ (s : tie.At-loop invariant-loop decreases-loop) where
-  abbrev few : length s.before.before.before.before.args.verbs.now ≤ most_verbs
-  few = s.before.before.before.before.requires.0
-
-  abbrev fits : s.loop.walk.count < most_points
-  fits = let n = most s.loop.inv few in let c = count_is s.loop.inv in omega arith
-
 pub loop-i-init : goal.loop-i-init
 loop-i-init c = begins (no_ends c.requires.xs_len.0 c.requires.xs_len.1) c.requires.verbs_value c.new-walk.ensures
 
 pub offset_bounds-xs-n : goal.offset_bounds-xs-n
-offset_bounds-xs-n c = let n = fits c in omega arith
+offset_bounds-xs-n c = let n = has_room c.loop-i.invariant c.requires.verbs_len_bound in omega arith
 
 pub bounds-xs-n : goal.bounds-xs-n
-bounds-xs-n c = let n = fits c in let w = c.loop-i.invariant.kept.widex in omega arith
+bounds-xs-n c = has_room c.loop-i.invariant c.requires.verbs_len_bound
 
 pub offset_bounds-ys-n : goal.offset_bounds-ys-n
-offset_bounds-ys-n c = let n = fits c in omega arith
+offset_bounds-ys-n c = let n = has_room c.loop-i.invariant c.requires.verbs_len_bound in omega arith
 
 pub bounds-ys-n : goal.bounds-ys-n
-bounds-ys-n c = let n = fits c in let w = c.loop-i.invariant.kept.widey in omega arith
+bounds-ys-n c = has_room c.loop-i.invariant c.requires.verbs_len_bound
 
 pub bounds-verbs-i : goal.bounds-verbs-i
 bounds-verbs-i c = c.loop-i-test.true
@@ -46,8 +38,7 @@ from_packed-verb-requires c =
     room c.loop-i.invariant c.loop-i-test.true (sym c.from_byte.ensures ∙ c.in-Verb.is)
 
 pub step-requires : goal.step-requires
-step-requires c =
-    fits c
+step-requires c = has_room c.loop-i.invariant c.requires.verbs_len_bound
 
 pub returns-in_default-step : goal.returns-in_default-step
 returns-in_default-step c =
@@ -67,21 +58,21 @@ loop-i-smaller c = let l = c.loop-i-test.true in omega arith
 pub loop-i-preserved : goal.loop-i-preserved
 loop-i-preserved c =
     let u = sym c.from_byte.ensures ∙ c.in-Verb.is in
-    let keeps = ends_kept c.loop-i.invariant (few at-loop) c.from_packed-verb.result in
+    let keeps = ends_kept c.loop-i.invariant c.requires.verbs_len_bound c.from_packed-verb.result in
     goes c.loop-i.invariant c.loop-i-test.true u c.from_packed-verb.ensures c.step.ensures c.in-Go.is
     c.floats-at.ensures keeps
 
 pub offset_bounds-xs-n-2 : goal.offset_bounds-xs-n-2
-offset_bounds-xs-n-2 c = let n = fits c in omega arith
+offset_bounds-xs-n-2 c = let n = has_room c.loop-i.invariant c.requires.verbs_len_bound in omega arith
 
 pub bounds-xs-n-2 : goal.bounds-xs-n-2
-bounds-xs-n-2 c = let n = fits c in let w = c.loop-i.invariant.kept.widex in omega arith
+bounds-xs-n-2 c = has_room c.loop-i.invariant c.requires.verbs_len_bound
 
 pub offset_bounds-ys-n-2 : goal.offset_bounds-ys-n-2
-offset_bounds-ys-n-2 c = let n = fits c in omega arith
+offset_bounds-ys-n-2 c = let n = has_room c.loop-i.invariant c.requires.verbs_len_bound in omega arith
 
 pub bounds-ys-n-2 : goal.bounds-ys-n-2
-bounds-ys-n-2 c = let n = fits c in let w = c.loop-i.invariant.kept.widey in omega arith
+bounds-ys-n-2 c = has_room c.loop-i.invariant c.requires.verbs_len_bound
 
 pub returns : goal.returns
-returns c = ends_all c.loop-i.invariant (few c) c.loop-i-test.false
+returns c = ends_all c.loop-i.invariant c.requires.verbs_len_bound c.loop-i-test.false

@@ -1,4 +1,3 @@
--- ---- the states
 -- `outline::segments` meets its contract: the walk so far stands for a contour, from which the verbs left lead to
 -- where all lead, and its segments are stored. Assumes nothing.
 use Prim.Native.Nat.{◌-◌, ◌<◌, ◌≤◌}

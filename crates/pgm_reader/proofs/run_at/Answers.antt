@@ -1,11 +1,6 @@
 -- `pgm_reader::run_at` meets its contract: what is left of the run is that of the place reached. Assumes nothing.
-use mathlib.Core.Path.{◌≡◌, sym, ◌∙◌}
-use Prim.Native.Nat.{◌+◌, ◌-◌, ◌≤◌}
+use mathlib.Core.Path.{sym, ◌∙◌}
 use native.Mathlib.Omega.{arith}
-use lib.ListN.{length, drop}
-use borrow.Author.Tests.{not-true, not-false}
-use borrow.Author.Rules.{rules}
-use Rattle.pgm_reader.specs.Reading.{leading}
 use Rattle.pgm_reader.specs.Steps.{is_of}
 use Rattle.pgm_reader.proofs.Runs.{leading_on, leading_stop, leading_end}
 use Rattle.pgm_reader.proofs.run_at.Goals as goal
@@ -16,13 +11,13 @@ loop-at-init c = (omega arith, omega arith, omega arith)
 pub returns-then-not-has : goal.returns-then-not-has
 returns-then-not-has c =
     let args = c.args in
-    let e = leading_stop (is_of args.kind) args.file.now c.loop-at.at (omega arith) (sym c.has.ensures ∙ not-true _ c.if-not-has.true) in
+    let e = leading_stop (is_of args.kind) args.file.now c.loop-at.at (omega arith) (sym c.has.ensures ∙ c.if-not-has.true) in
     omega arith
 
 pub loop-at-preserved : goal.loop-at-preserved
 loop-at-preserved c =
     let args = c.args in
-    let e = leading_on (is_of args.kind) args.file.now c.loop-at.at (omega arith) (sym c.has.ensures ∙ not-false _ c.if-not-has.false) in
+    let e = leading_on (is_of args.kind) args.file.now c.loop-at.at (omega arith) (sym c.has.ensures ∙ c.if-not-has.false) in
     (omega arith, omega arith, omega arith)
 
 pub returns : goal.returns

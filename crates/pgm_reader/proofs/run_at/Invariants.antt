@@ -1,13 +1,9 @@
 -- `pgm_reader::run_at` meets its contract: what is left of the run is that of the place reached. Assumes nothing.
-use mathlib.Core.Path.{◌≡◌, sym, ◌∙◌}
+use mathlib.Core.Path.{◌≡◌}
 use Prim.Native.Nat.{◌+◌, ◌-◌, ◌≤◌}
-use native.Mathlib.Omega.{arith}
 use lib.ListN.{length, drop}
-use borrow.Author.Tests.{not-true, not-false}
-use borrow.Author.Rules.{rules}
 use Rattle.pgm_reader.specs.Reading.{leading}
 use Rattle.pgm_reader.specs.Steps.{is_of}
-use Rattle.pgm_reader.proofs.Runs.{leading_on, leading_stop, leading_end}
 use Rattle.pgm_reader.proofs.run_at.Given as goal
 
 abbrev pub invariant-loop-at : goal.invariant-loop-at

@@ -2,42 +2,40 @@
 -- Assumes nothing.
 use Prim.Native.Nat.{ℕ, ◌*◌, ◌/◌, ◌^◌, ◌-◌, ◌≤◌, ◌<◌}
 use Rattle.roots.proofs.RootLoop.{Digits, start, pair_lt, root_fits, step_one, step_zero}
-use mathlib.Core.Logic.{⊎_elim}
 use mathlib.Core.Path.{◌≡◌, ap, ◌∙◌, subst}
 use native.Mathlib.Nat.{le_antisymm}
 use native.Mathlib.Omega.{arith}
 use Rattle.roots.proofs.root_by_digits.Goals as goal
+use Rattle.roots.proofs.root_by_digits.Goals.{then-trial-rest, else-trial-rest}
 
 -- the numbers of a turn are small
-small : (c : tie.In-loop invariant-loop decreases-loop)
-    → (c.before.loop.rest ≤ 2 * c.before.loop.root) × (c.before.loop.root < 2 ^ 54) × (c.before.loop.left / 2 ^ 62 < 4)
-small c =
-    let d = c.before.loop.invariant in
-    (d.within, root_fits d c.loop-test.true c.before.before.requires, pair_lt d c.loop-test.true)
+small : {a steps left root rest i : ℕ} → Digits a steps left root rest i → i < steps → steps ≤ 54
+    → (rest ≤ 2 * root) × (root < 2 ^ 54) × (left / 2 ^ 62 < 4)
+small d more h = (d.within, root_fits d more h, pair_lt d more)
 
 pub loop-i-init : goal.loop-i-init
 loop-i-init c = start c.args.a c.args.steps (omega arith)
 
 pub overflow_mul-rest : goal.overflow_mul-rest
-overflow_mul-rest c = omega (arith, small c)
+overflow_mul-rest c = omega (arith, small c.loop-i.invariant c.loop-i-test.true c.requires)
 
 pub overflow_add-rest : goal.overflow_add-rest
-overflow_add-rest c = omega (arith, small c)
+overflow_add-rest c = omega (arith, small c.loop-i.invariant c.loop-i-test.true c.requires)
 
 pub overflow_mul-left : goal.overflow_mul-left
 overflow_mul-left c = omega arith
 
 pub overflow_mul-trial : goal.overflow_mul-trial
-overflow_mul-trial c = omega (arith, small c)
+overflow_mul-trial c = omega (arith, small c.loop-i.invariant c.loop-i-test.true c.requires)
 
 pub overflow_add-trial : goal.overflow_add-trial
-overflow_add-trial c = omega (arith, small c)
+overflow_add-trial c = omega (arith, small c.loop-i.invariant c.loop-i-test.true c.requires)
 
 pub overflow_mul-root : goal.overflow_mul-root
-overflow_mul-root c = omega (arith, small c)
+overflow_mul-root c = omega (arith, small c.loop-i.invariant c.loop-i-test.true c.requires)
 
 pub overflow_add-root : goal.overflow_add-root
-overflow_add-root c = omega (arith, small c)
+overflow_add-root c = omega (arith, small c.loop-i.invariant c.loop-i-test.true c.requires)
 
 pub overflow_add-i : goal.overflow_add-i
 overflow_add-i c = let p = c.requires in let t = c.loop-i-test.true in omega arith
@@ -49,7 +47,10 @@ pub loop-i-preserved : goal.loop-i-preserved
 loop-i-preserved c =
     let d = c.loop-i.invariant in
     let m = c.loop-i-test.true in
-    ⊎_elim (λ w. rw (w.1, w.2) (step_one d m w.0.taken)) (λ w. rw (w.1, w.2) (step_zero d m w.0.left)) c.if-trial-rest.branch
+    elim c.if-trial-rest.branch [
+      then-trial-rest w ↦ rw (w.root-is, w.rest-is) (step_one d m w.if-trial-rest.true)
+    | else-trial-rest w ↦ rw (w.root-is, w.rest-is) (step_zero d m w.if-trial-rest.false)
+    ]
 
 pub returns : goal.returns
 returns c =

@@ -7,22 +7,17 @@ use Rattle.sweep.proofs.Runs.{cell_in_line, cell_moved}
 use borrow.Author.Rules.{rules}
 use Rattle.sweep.proofs.sweep_cell.Goals as goal
 
--- past the run
-in_line : (c : tie.After-fill-run) → c.before.before.before.before.args.cell < length c.fill-run.new.0
-in_line c =
-    let start = c.before.before.before.before in
-    let pre = start.requires in
-    rw (cell_in_line pre.0 start.args.cell pre.1.0 pre.1.1 pre.1.2 c.fill-run.ensures) pre.1.1
-
 pub fill_run-requires : goal.fill_run-requires
 fill_run-requires c =
     omega (arith, c.requires.reached.same, c.requires.from_le_cell.1)
 
 pub bounds-line-cell : goal.bounds-line-cell
-bounds-line-cell c = let l = in_line c in omega arith
+bounds-line-cell c = let l = cell_in_line c.requires.reached c.args.cell c.requires.from_le_cell.0 c.requires.from_le_cell.1 c.requires.from_le_cell.2 c.fill_run.ensures in
+    omega (arith, l, c.requires.from_le_cell.1)
 
 pub bounds-line-cell-2 : goal.bounds-line-cell-2
-bounds-line-cell-2 c = let l = in_line c in omega arith
+bounds-line-cell-2 c = let l = cell_in_line c.requires.reached c.args.cell c.requires.from_le_cell.0 c.requires.from_le_cell.1 c.requires.from_le_cell.2 c.fill_run.ensures in
+    omega (arith, l, c.requires.from_le_cell.1)
 
 pub returns : goal.returns
 returns c =

@@ -25,7 +25,7 @@ pub nonzero_div-d : goal.nonzero_div-d
 nonzero_div-d c = rw (unit c.args.e c.requires.e_bound (omega arith)) (pow_pos (149 - c.args.e))
 
 pub nonzero_rem-d : goal.nonzero_rem-d
-nonzero_rem-d c = div-step-away c
+nonzero_rem-d c = nonzero_div-d c
 
 pub step_away-requires-2 : goal.step_away-requires-2
 step_away-requires-2 c = let h = c.requires.d_bound in omega (arith, div-le_self c.args.d (1 * 2 ^ (149 - c.args.e) % 2 ^ 64))

@@ -1,5 +1,4 @@
 -- `word_reader::count_at` meets its contract. Assumes nothing.
-use borrow.Author.Rules.{rules}
 use lib.ListN.{drop}
 use Rattle.word_reader.proofs.Reader.{count_of}
 use Rattle.word_reader.proofs.count_at.Goals as goal

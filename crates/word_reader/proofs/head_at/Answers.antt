@@ -1,5 +1,4 @@
 -- `word_reader::head_at` meets its contract. Assumes nothing.
-use borrow.Author.Rules.{rules}
 use mathlib.Core.Path.{ap, ◌∙◌}
 use Prim.Native.Nat.{◌+◌}
 use lib.ListN.{drop}
@@ -9,8 +8,7 @@ use Rattle.word_reader.proofs.head_at.Goals as goal
 
 pub returns : goal.returns
 returns c =
-    let args = c.args in
-    (
+    let args = c.args in (
       c.is_even_odd.ensures ∙ ap is_even_odd c.pair_at-head.ensures.0,
       count_of (drop (args.at + 1) args.words.now) c.count.ensures c.pair_at-head.ensures.1,
     )

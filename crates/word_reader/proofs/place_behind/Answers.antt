@@ -1,5 +1,4 @@
 -- `word_reader::place_behind` meets its contract. Assumes nothing.
-use borrow.Author.Rules.{rules}
 use Rattle.word_reader.proofs.Reader.{behind_end}
 use Rattle.word_reader.proofs.place_behind.Goals as goal
 

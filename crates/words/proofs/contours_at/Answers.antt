@@ -1,8 +1,6 @@
 -- `words::contours_at` meets its contract. Assumes nothing.
-use borrow.Author.Rules.{rules}
 use mathlib.Core.Path.{refl}
-use Prim.Native.Nat.{◌-◌}
-use Rattle.words.proofs.Steps.{ContoursAt, contours_stop, contours_more, contours_end}
+use Rattle.words.proofs.Steps.{contours_stop, contours_more, contours_end}
 use Rattle.words.proofs.contours_at.Goals as goal
 
 pub loop-remaining-init : goal.loop-remaining-init

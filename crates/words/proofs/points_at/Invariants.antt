@@ -1,9 +1,5 @@
 -- `words::points_at` meets its contract. Assumes nothing.
-use borrow.Author.Rules.{rules}
-use mathlib.Core.Path.{sym, ◌∙◌}
-use native.Mathlib.Omega.{arith}
-use Prim.Native.Nat.{◌-◌}
-use Rattle.words.proofs.Steps.{PointThere, point_there, PointsAt, points_start, points_stop, points_more, points_end}
+use Rattle.words.proofs.Steps.{PointsAt}
 use Rattle.words.proofs.points_at.Given as goal
 
 abbrev pub invariant-loop-remaining : goal.invariant-loop-remaining

@@ -1,9 +1,6 @@
 -- `words::read_words` meets its contract. Assumes nothing.
-use borrow.Author.Rules.{rules}
 use native.Mathlib.Omega.{arith}
-use Prim.Native.Nat.{◌-◌}
-use lib.ListN.{length}
-use Rattle.words.proofs.Steps.{Going, going_start, going_end, going_fault, group_onward, going_more}
+use Rattle.words.proofs.Steps.{going_start, going_end, going_fault, group_onward, going_more}
 use Rattle.words.proofs.read_words.Goals as goal
 
 pub loop-at-init : goal.loop-at-init

@@ -1,5 +1,4 @@
 -- `cells::Corner::is_beyond` meets its contract. Assumes nothing.
-use borrow.Author.Rules.{rules}
 use mir.Syntax.{w32}
 use mir.ValLaws.{to_z-of_z}
 use Rattle.cells.specs.Corner.{corner_number_out}

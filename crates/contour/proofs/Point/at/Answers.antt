@@ -10,12 +10,12 @@ use Rattle.word_reader.proofs.Reader.{word_here, word_there}
 use Rattle.contour.proofs.Point.at.Goals as goal
 
 pub coordinate-requires : goal.coordinate-requires
-coordinate-requires c =
+coordinate-requires c w is =
     let args = c.args in
     ap beyond (word_there args.words.now args.at w (sym c.pair_at-pair.ensures.0 ∙ is)).1 ∙ c.requires.pos_value.0
 
 pub coordinate-requires-2 : goal.coordinate-requires-2
-coordinate-requires-2 c =
+coordinate-requires-2 c w is =
     let args = c.args in
     ap beyond (word_there args.words.now (args.at + 1) w (sym c.pair_at-pair.ensures.1 ∙ is)).1 ∙ c.requires.pos_value.1
 

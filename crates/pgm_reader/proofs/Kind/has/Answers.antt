@@ -1,5 +1,4 @@
 -- `pgm_reader::Kind::has` meets its contract. Assumes nothing.
-use borrow.Author.Rules.{rules}
 use Rattle.pgm_reader.proofs.Kind.has.Goals as goal
 
 pub returns-in-Space : goal.returns-in-Space

@@ -1,7 +1,8 @@
 -- `word_reader::Word::coordinate` meets its contract. Assumes nothing.
-use borrow.Author.Rules.{rules, sfits_of}
+use borrow.Author.Rules.{rules}
 use mathlib.Core.Path.{sym, ap, ◌∙◌}
 use mir.Syntax.{w32}
+use mir.Val.{SFits}
 use mir.ValLaws.{to_z-of_z}
 use Rattle.word_list.specs.Words.{beyond}
 use Rattle.word_reader.proofs.Reader.{end_coordinate, far_coordinate, good_coordinate}
@@ -12,12 +13,12 @@ returns-in_default c = end_coordinate c.args.self c.in_default.is
 
 pub returns-then-is_beyond : goal.returns-then-is_beyond
 returns-then-is_beyond c =
-    let word = c.self-1.given in
-    let e = to_z-of_z w32 word.0.0 (sfits_of c.known_told-1.given.0.1) in
-    far_coordinate c.args.self word.0.0 word.1 (ap beyond (sym e) ∙ sym c.is_beyond.ensures ∙ c.if-is_beyond.true)
+    let fits : SFits w32 c.in-Value.x = search rules in
+    let e = to_z-of_z w32 c.in-Value.x fits in
+    far_coordinate c.args.self c.in-Value.x c.in-Value.is (ap beyond (sym e) ∙ sym c.is_beyond.ensures ∙ c.if-is_beyond.true)
 
 pub returns : goal.returns
 returns c =
-    let word = c.self-1.given in
-    let e = to_z-of_z w32 word.0.0 (sfits_of c.known_told-1.given.0.1) in
-    good_coordinate c.args.self word.0.0 word.1 (ap beyond (sym e) ∙ sym c.is_beyond.ensures ∙ c.if-is_beyond.false)
+    let fits : SFits w32 c.in-Value.x = search rules in
+    let e = to_z-of_z w32 c.in-Value.x fits in
+    good_coordinate c.args.self c.in-Value.x c.in-Value.is (ap beyond (sym e) ∙ sym c.is_beyond.ensures ∙ c.if-is_beyond.false)
