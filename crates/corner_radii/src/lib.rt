@@ -235,6 +235,7 @@ fn round(r: Radii) -> bool
     r.x > 0.0 && r.y > 0.0
 }
 
+#[tactic(auto, unfolding(crate::specs::Mix::alike_of))]
 fn alike(r0: Radii, r1: Radii, r2: Radii, r3: Radii, slack: f32) -> bool
     ensures { result ≡ alike_of r0 r1 r2 r3 slack }
 {
@@ -242,6 +243,7 @@ fn alike(r0: Radii, r1: Radii, r2: Radii, r3: Radii, slack: f32) -> bool
 }
 
 // Whether the side between the corners a and b is cut.
+#[tactic(auto, unfolding(crate::specs::Mix::cut_of))]
 fn cut(a: Radii, b: Radii, c: Radii, d: Radii, slack: f32) -> bool
     ensures { result ≡ cut_of a b c d slack }
 {
@@ -249,6 +251,7 @@ fn cut(a: Radii, b: Radii, c: Radii, d: Radii, slack: f32) -> bool
 }
 
 // The first side that is cut.
+#[tactic(auto, unfolding(crate::specs::Mix::cut_at_of))]
 fn cut_at(r0: Radii, r1: Radii, r2: Radii, r3: Radii, slack: f32) -> CornerMix
     ensures { result ≡ cut_at_of r0 r1 r2 r3 slack }
 {
@@ -267,6 +270,7 @@ fn cut_at(r0: Radii, r1: Radii, r2: Radii, r3: Radii, slack: f32) -> CornerMix
     CornerMix::Other
 }
 
+#[tactic(auto, unfolding(crate::specs::Mix::mix_of))]
 fn mix(r0: Radii, r1: Radii, r2: Radii, r3: Radii, slack: f32) -> CornerMix
     ensures { result ≡ mix_of r0 r1 r2 r3 slack }
 {

@@ -130,6 +130,7 @@ impl Corners {
         }
     }
 
+    #[tactic(auto, unfolding(crate::specs::Fit::corners_box_of))]
     fn parallelogram(self, size: f32) -> MaybeBox
         ensures { result ≡ corners_box_of self size }
     {
@@ -300,6 +301,7 @@ fn closed(
     whole(parallelogram(start, xs, ys, n))
 }
 
+#[tactic(auto, unfolding(crate::specs::Fit::fit_with_cut_of))]
 fn fit_with_cut_unchecked(verbs: &[u8], positions: &[f32]) -> Fitted
     requires verbs_len_bound { length verbs.now ≤ most_verbs }
     requires verbs_value { floats_needed_of verbs.now ≡ length positions.now }

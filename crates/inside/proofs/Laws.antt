@@ -79,10 +79,14 @@ module _ (area : ClipCoverage) where
   first_passes i zero (b ∷ bs) (here h us) =
       let g = tested (box_check_of b) (contains_of area b) false h in
       (rw g.0 (all_pass bs us), rw g.1 (ap Outside (omega arith)))
+  first_passes i zero [] h = elim h [ ]
+  first_passes i (suc n) [] h = elim h [ ]
 
   place_within : (n : ℕ) (bs : List RoundedBox) → FirstOutside area bs n → n < length bs
   place_within zero (b ∷ bs) (here h us) = omega arith
   place_within (suc n) (b ∷ bs) (later h l) = let p = place_within n bs l in omega arith
+  place_within zero [] h = elim h [ ]
+  place_within (suc n) [] h = elim h [ ]
 
   -- what is answered of boxes that stand at place i and after it, none of which is refused
   abbrev Told : List RoundedBox → ℕ → InsideAnswer → Type 0

@@ -1,5 +1,5 @@
 -- Where enough is lent for the ink, each call answers as before (specs/Before.antt). Assumes nothing.
-use mathlib.Core.Path.{◌≡◌, refl}
+use mathlib.Core.Path.{refl}
 use Rattle.ink.proofs.Lent.{short_by_mask}
 use Rattle.mask.specs.Before.{WithInkAsBefore}
 

@@ -1,5 +1,5 @@
 -- A print loop by the ink that a done call leaves prints the mask (specs/Laws.antt, DonePrints). Assumes nothing.
-use mathlib.Core.Path.{◌≡◌, refl}
+use mathlib.Core.Path.{refl}
 use mathlib.Core.List.{List, ◌++◌}
 use Prim.Native.Nat.{ℕ}
 use lib.ListN.{drop}

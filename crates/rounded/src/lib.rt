@@ -92,6 +92,7 @@ pub struct Met {
 }
 
 // Whether a point is past the straight sides of a round corner.
+#[tactic(auto, unfolding(crate::specs::OnBox::at_corner_of))]
 fn at_corner(r: Radii, corner: Position) -> bool
     ensures { result ≡ at_corner_of r corner }
 {
@@ -338,6 +339,7 @@ fn other(mix: CornerMix) -> bool
 }
 
 // The box of n points with these corners, where all are on it and they go around it once.
+#[tactic(auto, unfolding(crate::specs::Rounded::boxed_of, crate::specs::Rounded::fitted_of))]
 fn fit_on(
     xs: &[f32; MOST_SAMPLES],
     ys: &[f32; MOST_SAMPLES],
@@ -359,6 +361,7 @@ fn fit_on(
 }
 
 // The box of an outline of n points, with m anchors.
+#[tactic(auto, unfolding(crate::specs::Rounded::rounded_by))]
 fn rounded_points(
     xs: &[f32; MOST_SAMPLES],
     ys: &[f32; MOST_SAMPLES],
@@ -380,6 +383,7 @@ fn rounded_points(
 
 // The box of a start and segments, its strays, and the box that cuts it where one side is square.
 // Ruled out: a box for an outline that goes around twice; the cut box grown with the rounded one.
+#[tactic(auto, unfolding(crate::specs::Rounded::rounded_of))]
 pub fn rounded(start: Position, pieces: [Piece; MOST_SEGMENTS], count: usize) -> Fitted
     requires { count ≤ most_verbs }
     ensures { result ≡ rounded_of start (segments_in pieces count) }

@@ -24,41 +24,15 @@ use Rattle.mask.proofs.intersect.Goals as goal
 told : (l : Laying) (lent : Lent) (other : ℕ) {o : Outcome} → lay_answer l lent other ≡ o → LayNumber l lent other (outcome_number o)
 told l lent other e = subst (λ (o : Outcome). LayNumber l lent other (outcome_number o)) e (numbers_exactly_when.lay_only l lent other)
 
--- where the check refuses nothing
-module _ (t : tie.After-enum-told) where
-  abbrev start : tie.Start
-  start = t.before.before.before.before.before.before
-
-  abbrev l : Laying
-  l = laying start.args.size start.args.other-size start.args.offset
-
-  abbrev mask : List ℕ
-  mask = start.args.mask.now
-
-  abbrev ink : List ℕ
-  ink = start.args.ink.now
-
-  abbrev other : List ℕ
-  other = start.args.other.now
-
-  answered : lay_answer l (lent mask ink) (length other) ≡ Done
-  answered = t.before.before.lay-check.ensures.tells start.args.offset ∙ ap outcome_of t.enum_told.given.1
-
-  can : CanLay l (lent mask ink) (length other)
-  can = laid_exactly_when.done_only l (lent mask ink) (length other) answered
-
-  long : cells_of l.size ≡ length (take (cells_of l.size) mask)
-  long = cells_long l.size mask can.enough.cells
-
 -- the mask, with the cells that were laid
-laid : (t : tie.After-enum-told) {front : List ℕ} → front ≡ laying_of (l t) (take (cells_of (l t).size) (mask t)) (other t)
-    → front ++ drop (cells_of (l t).size) (mask t) ≡ laying_of (l t) (mask t) (other t) ++ drop (cells_of (l t).size) (mask t)
-laid t e = ap (λ (cells : List ℕ). cells ++ drop (cells_of (l t).size) (mask t)) (e ∙ laying_front (l t) (mask t) (other t))
+laid : (l : Laying) (mask other : List ℕ) {front : List ℕ} → front ≡ laying_of l (take (cells_of l.size) mask) other
+    → front ++ drop (cells_of l.size) mask ≡ laying_of l mask other ++ drop (cells_of l.size) mask
+laid l mask other e = ap (λ (cells : List ℕ). cells ++ drop (cells_of l.size) mask) (e ∙ laying_front l mask other)
 
 pub returns-in-Refused : goal.returns-in-Refused
 returns-in-Refused c =
     let args = c.args in
-    let l = laying args.size args.other-size args.offset in
+    let l = laying args.size args.other_size args.offset in
     let answer = c.lay_check.ensures.tells args.offset ∙ ap outcome_of c.in-Refused.is in
     record {
       answer = sym answer;
@@ -69,35 +43,54 @@ returns-in-Refused c =
 
 pub overflow_mul-cells : goal.overflow_mul-cells
 overflow_mul-cells c =
-    let size = (l c).size in
-    let h = cells_fit size (allowed_small size (can c).size_allowed) in
+    let l = laying c.args.size c.args.other_size c.args.offset in
+    let answered = c.lay_check.ensures.tells c.args.offset ∙ ap outcome_of c.in_default.is in
+    let can : CanLay l (lent c.args.mask.now c.args.ink.now) (length c.args.other.now) = laid_exactly_when.done_only l _ _ answered in
+    let h = cells_fit c.args.size (allowed_small c.args.size can.size_allowed) in
     omega arith
 
 pub slice_bounds-lay-end : goal.slice_bounds-lay-end
-slice_bounds-lay-end c = (can c).enough.cells
+slice_bounds-lay-end c =
+    let l = laying c.args.size c.args.other_size c.args.offset in
+    let answered = c.lay_check.ensures.tells c.args.offset ∙ ap outcome_of c.in_default.is in
+    let can : CanLay l (lent c.args.mask.now c.args.ink.now) (length c.args.other.now) = laid_exactly_when.done_only l _ _ answered in
+    can.enough.cells
 
 pub slice_bounds-lay-end-2 : goal.slice_bounds-lay-end-2
-slice_bounds-lay-end-2 c = long c
+slice_bounds-lay-end-2 c =
+    let l = laying c.args.size c.args.other_size c.args.offset in
+    let answered = c.lay_check.ensures.tells c.args.offset ∙ ap outcome_of c.in_default.is in
+    let can : CanLay l (lent c.args.mask.now c.args.ink.now) (length c.args.other.now) = laid_exactly_when.done_only l _ _ answered in
+    cells_long c.args.size c.args.mask.now can.enough.cells
 
 pub lay-requires : goal.lay-requires
 lay-requires c =
+    let l = laying c.args.size c.args.other_size c.args.offset in
+    let answered = c.lay_check.ensures.tells c.args.offset ∙ ap outcome_of c.in_default.is in
+    let can : CanLay l (lent c.args.mask.now c.args.ink.now) (length c.args.other.now) = laid_exactly_when.done_only l _ _ answered in
     record {
-      size_allowed = ((can t).size_allowed, long t);
-      size_allowed_2 = ((can t).other_allowed, (can t).other_cells);
+      size_allowed = (can.size_allowed, cells_long c.args.size c.args.mask.now can.enough.cells);
+      size_allowed_2 = (can.other_allowed, can.other_cells);
     }
 
 pub scan-requires : goal.scan-requires
 scan-requires c =
-    let cells = laying_of (l t) (mask t) (other t) in
-    let written = laid t c.lay.ensures in
-    ((can t).size_allowed, still_enough (l t).size cells (mask t) (laying_length (l t) (mask t) (other t)) (ink t) _ written (can t).enough)
+    let l = laying c.args.size c.args.other_size c.args.offset in
+    let answered = c.lay_check.ensures.tells c.args.offset ∙ ap outcome_of c.in_default.is in
+    let can : CanLay l (lent c.args.mask.now c.args.ink.now) (length c.args.other.now) = laid_exactly_when.done_only l _ _ answered in
+    let mask = c.args.mask.now in
+    let cells = laying_of l mask c.args.other.now in
+    let written = laid l mask c.args.other.now c.lay.ensures in
+    (can.size_allowed, still_enough c.args.size cells mask (laying_length l mask c.args.other.now) c.args.ink.now _ written can.enough)
 
 pub returns : goal.returns
 returns c =
-    let told-number = told (l t) (lent (mask t) (ink t)) (length (other t)) (answered t) in
+    let l = laying c.args.size c.args.other_size c.args.offset in
+    let answered = c.lay_check.ensures.tells c.args.offset ∙ ap outcome_of c.in_default.is in
+    let can : CanLay l (lent c.args.mask.now c.args.ink.now) (length c.args.other.now) = laid_exactly_when.done_only l _ _ answered in
     record {
-      answer = sym (answered t);
-      cells = laid t c.lay.ensures;
+      answer = sym answered;
+      cells = laid l c.args.mask.now c.args.other.now c.lay.ensures;
       ink = c.scan.ensures;
-      number = told-number;
+      number = told l (lent c.args.mask.now c.args.ink.now) (length c.args.other.now) answered;
     }

@@ -18,21 +18,10 @@ use Rattle.mask.proofs.intersect_placed.Goals as goal
 told : (p : Placed) (lent : Lent) (other : ℕ) {o : Outcome} → lay_placed_answer p lent other ≡ o → LayPlacedNumber p lent other (outcome_number o)
 told p lent other e = subst (λ (o : Outcome). LayPlacedNumber p lent other (outcome_number o)) e (numbers_exactly_when.placed_only p lent other)
 
--- where the check refuses nothing
-module _ (t : tie.After-enum-told) where
-  abbrev start : tie.Start
-  start = t.before.before.before.before.before.before
-
-  abbrev p : Placed
-  p = placed start.args.mask-record start.args.other-record
-
-  allowed : CornerAllowed p.own.corner × CornerAllowed p.other.corner
-  allowed = check_passes p (sym t.before.before.corners-check.ensures ∙ t.enum_told.given.1)
-
 pub returns-in-Refused : goal.returns-in-Refused
 returns-in-Refused c =
     let args = c.args in
-    let p = placed args.mask-record args.other-record in
+    let p = placed args.mask_record args.other_record in
     let l = lent args.mask.now args.ink.now in
     let n = length args.other.now in
     let answer = check_refuses p l n c.in-Refused.fault (sym c.corners_check.ensures ∙ c.in-Refused.is) in
@@ -44,17 +33,22 @@ returns-in-Refused c =
     }
 
 pub between-offset-requires : goal.between-offset-requires
-between-offset-requires c = allowed c
+between-offset-requires c =
+    let p = placed c.args.mask_record c.args.other_record in
+    let allowed = check_passes p (sym c.corners_check.ensures ∙ c.in_default.is) in
+    allowed
 
 pub returns : goal.returns
 returns c =
-    let l = lent (start t).args.mask.now (start t).args.ink.now in
-    let n = length (start t).args.other.now in
+    let p = placed c.args.mask_record c.args.other_record in
+    let allowed = check_passes p (sym c.corners_check.ensures ∙ c.in_default.is) in
+    let l = lent c.args.mask.now c.args.ink.now in
+    let n = length c.args.other.now in
     let laid = rw c.between-offset.ensures at c.intersect.ensures in
-    let answer = within (p t) l n (allowed t).0 (allowed t).1 ∙ sym laid.0 in
+    let answer = within p l n allowed.0 allowed.1 ∙ sym laid.answer in
     record {
       answer = sym answer;
-      cells = laid.1.0;
-      ink = laid.1.1.0;
-      number = told (p t) l n answer;
+      cells = laid.cells;
+      ink = laid.ink;
+      number = told p l n answer;
     }

@@ -5,7 +5,7 @@ use lib.ListN.{length}
 use Rattle.fault.specs.declared.Fault.TheVariants.{MaskTooLarge, BufferTooShort}
 use Rattle.word_list.specs.Words.{points_in, read_words}
 use Rattle.words.proofs.Steps.{scan_fault}
-use Rattle.list_fault.proofs.ListFault.{list_fault as list-fault-law}
+use Rattle.list_fault.proofs.ListFault.{list_fault as list_fault_law}
 use Rattle.cells.specs.Cells.{too_large, SizeAllowed}
 use Rattle.cells.proofs.Sizes.{size_allowed, size_large}
 use Rattle.ink.specs.Lent.{Lent, lent, LentEnough}
@@ -17,38 +17,13 @@ use Rattle.mask.proofs.Scratch.{list_counted}
 use borrow.Author.Rules.{rules}
 use Rattle.mask.proofs.rasterize_into.Goals as goal
 
--- what is given
-module _ (s : tie.Start) where
-  abbrev d : Drawing
-  d = drawing s.args.mask-record.size s.args.words.now s.args.floats.now s.args.counters.now
-
-  abbrev l : Lent
-  l = lent s.args.mask.now s.args.ink.now
-
--- where the size is not too large
-module _ (e : tie.Else1) where
-  abbrev start : tie.Start
-  start = e.before.before.before.before.before.before.before
-
-  small : too_large (d start).size ≡ false
-  small = sym e.before.is-too-large.ensures ∙ e.if1.left
-
-  allowed : SizeAllowed (d start).size
-  allowed = size_allowed (d start).size small
-
--- where enough is lent for the mask and its ink
-module _ (long : tie.Else2) where
-  abbrev small_size : tie.Else1
-  small_size = long.before.before
-
-  enough : LentEnough (d (start small_size)).size (l (start small_size))
-  enough = lent_enough (d (start small_size)).size (l (start small_size)) (sym long.before.lent_short_law.ensures ∙ long.if2.left)
-
 pub returns-then-is_too_large : goal.returns-then-is_too_large
 returns-then-is_too_large c =
-    let cause = too_large_law (size_large (d s).size (sym c.is_too_large.ensures ∙ c.if-is_too_large.true)) in
+    let d = drawing c.args.mask_record.size c.args.words.now c.args.floats.now c.args.counters.now in
+    let l = lent c.args.mask.now c.args.ink.now in
+    let cause = too_large_law (size_large c.args.mask_record.size (sym c.is_too_large.ensures ∙ c.if-is_too_large.true)) in
     record {
-      answer = sym (cannot_draw (d s) (l s) MaskTooLarge cause);
+      answer = sym (cannot_draw d l MaskTooLarge cause);
       cells = refl;
       ink = refl;
       floats = refl;
@@ -57,13 +32,16 @@ returns-then-is_too_large c =
     }
 
 pub lent_short-requires : goal.lent_short-requires
-lent_short-requires c = allowed c
+lent_short-requires c = size_allowed c.args.mask_record.size (sym c.is_too_large.ensures ∙ c.if-is_too_large.false)
 
 pub returns-then-lent_short : goal.returns-then-lent_short
 returns-then-lent_short c =
-    let cause = lent_short_law (allowed e) (short_told (d (start e)).size (l (start e)) (sym c.lent_short.ensures ∙ c.if-lent_short.true)) in
+    let d = drawing c.args.mask_record.size c.args.words.now c.args.floats.now c.args.counters.now in
+    let l = lent c.args.mask.now c.args.ink.now in
+    let allowed = size_allowed c.args.mask_record.size (sym c.is_too_large.ensures ∙ c.if-is_too_large.false) in
+    let cause = lent_short_law allowed (short_told c.args.mask_record.size l (sym c.lent_short.ensures ∙ c.if-lent_short.true)) in
     record {
-      answer = sym (cannot_draw (d (start e)) (l (start e)) BufferTooShort cause);
+      answer = sym (cannot_draw d l BufferTooShort cause);
       cells = refl;
       ink = refl;
       floats = refl;
@@ -73,22 +51,25 @@ returns-then-lent_short c =
 
 pub draw_in-requires : goal.draw_in-requires
 draw_in-requires c =
-    let points = c.points-1.given in
-    let counted = list_counted (d (start e)).words points.0.0 points.0.1.0 (sym c.read_words.ensures ∙ points.1) in
+    let size = c.args.mask_record.size in
+    let l = lent c.args.mask.now c.args.ink.now in
     record {
-      size_allowed = (allowed e, enough long);
-      list_counted = counted;
+      size_allowed = (size_allowed size (sym c.is_too_large.ensures ∙ c.if-is_too_large.false), lent_enough size l (sym c.lent_short.ensures ∙ c.if-lent_short.false));
+      list_counted = list_counted c.args.words.now _ _ (sym c.read_words.ensures ∙ c.in-At.is);
     }
 
 pub returns-in-Refused : goal.returns-in-Refused
 returns-in-Refused c =
-    let words = (d (start e)).words in
-    let told = c.f-1.given in
-    let f = told.0.0 in
-    let read = scan_fault (length words) points_in 0 (read_words words) f (sym c.read_words.ensures ∙ told.1) in
-    let cause = list_fault (allowed e) (enough long) (list-fault-law.only words f read) in
+    let d = drawing c.args.mask_record.size c.args.words.now c.args.floats.now c.args.counters.now in
+    let l = lent c.args.mask.now c.args.ink.now in
+    let words = c.args.words.now in
+    let f = c.in-Refused.f in
+    let allowed = size_allowed c.args.mask_record.size (sym c.is_too_large.ensures ∙ c.if-is_too_large.false) in
+    let enough = lent_enough c.args.mask_record.size l (sym c.lent_short.ensures ∙ c.if-lent_short.false) in
+    let read = scan_fault (length words) points_in 0 (read_words words) f (sym c.read_words.ensures ∙ c.in-Refused.is) in
+    let cause = list_fault allowed enough (list_fault_law.only words f read) in
     record {
-      answer = sym (cannot_draw (d (start e)) (l (start e)) f cause);
+      answer = sym (cannot_draw d l f cause);
       cells = refl;
       ink = refl;
       floats = refl;
@@ -97,4 +78,13 @@ returns-in-Refused c =
     }
 
 pub returns-in-At : goal.returns-in-At
-returns-in-At c = c.draw_in.ensures
+returns-in-At c =
+    let done = c.draw_in.ensures in
+    record {
+      answer = done.value;
+      cells = done.mask_after;
+      ink = done.ink_after;
+      floats = done.floats_after;
+      counters = done.counters_after;
+      number = done.draw_number;
+    }

@@ -12,8 +12,8 @@ use Rattle.nearest_roots.proofs.Guessing.{above_no_nan, bits_no_nan}
 use borrow.Author.Rules.{rules}
 use Rattle.nearest_roots.proofs.guess.Goals as goal
 
-below_top : (n : ℕ) → ltb n 0x2_3f80_0000 ≡ true → n - 0x1_c000_0000 < 255 * 2 ^ 23
-below_top n h = omega (arith, ltb-true n 0x2_3f80_0000 h)
+below_top : (n : ℕ) → n < 0x2_3f80_0000 → n - 0x1_c000_0000 < 255 * 2 ^ 23
+below_top n h = omega arith
 
 pub float_to_bits-bits : goal.float_to_bits-bits
 float_to_bits-bits c = above_no_nan _ c.args.v c.if-v.true

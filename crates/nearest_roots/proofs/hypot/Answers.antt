@@ -1,4 +1,4 @@
--- `roots::hypot` meets its contract: a guess that was held is the nearest f32, and else the digits give it; with an
+-- `nearest_roots::hypot` meets its contract: a guess that was held is the nearest f32, and else the digits give it; with an
 -- argument that is not finite the two steps are taken. Assumes nothing.
 use mathlib.Core.Bool.{false}
 use mathlib.Core.Logic.{◌⊎◌, inl, inr, ⊎_elim}
@@ -11,6 +11,7 @@ use Rattle.nearest_roots.proofs.Guessing.{was_held, hypot_held}
 use Rattle.nearest_roots.proofs.RootBelief.{not_finite}
 use borrow.Author.Rules.{rules}
 use Rattle.nearest_roots.proofs.hypot.Goals as goal
+use Rattle.nearest_roots.proofs.hypot.Goals.{else-is_finite-via-then-is_finite+else-is_finite-2, else-is_finite-via-else-is_finite}
 
 pub returns-then-root : goal.returns-then-root
 unfolding of_bits
@@ -32,6 +33,9 @@ unfolding two_step_of
 returns c =
     let x = c.is_finite.ensures in
     let one : (finite c.args.x ≡ false) ⊎ (finite c.args.y ≡ false) =
-    ⊎_elim (λ w. inr (sym c.?1.ensures ∙ c.?2.left)) (λ w. inl (sym x ∙ c.?left)) c.else-is_finite.branch in
+        elim c.else-is_finite.branch [
+          else-is_finite-via-then-is_finite+else-is_finite-2 w ↦ inr (sym w.is_finite-then-is_finite.ensures ∙ w.if-is_finite-2.false)
+        | else-is_finite-via-else-is_finite w ↦ inl (sym x ∙ w.if-is_finite.false)
+        ] in
     rw (c.narrow.ensures, c.sqrt64.ensures, c.widen-b.ensures, c.widen-a.ensures)
     (sym (not_finite c.args.x c.args.y one))

@@ -1,6 +1,5 @@
 -- `pgm_writer::header_length` meets its contract. Assumes nothing.
 use native.Mathlib.Omega.{arith}
-use borrow.Author.Rules.{rules}
 use Rattle.pgm_writer.proofs.Texts.{decimal_short, header_length}
 use Rattle.pgm_writer.proofs.header_length.Goals as goal
 

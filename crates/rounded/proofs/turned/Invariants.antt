@@ -10,7 +10,7 @@ use Rattle.rounded.proofs.turned.Given as goal
 
 abbrev pub invariant-loop-i : goal.invariant-loop-i
 invariant-loop-i l =
-    Paired (λ l.t p q. turned_by l.t (step_of (angle_of l.a p) (angle_of l.a q))) no_turn l.xs l.ys l.n l.i l.t × (l.last ≡ angle_of l.a (point_at l.xs l.ys (l.i - 1)))
+    Paired (λ t p q. turned_by t (step_of (angle_of l.a p) (angle_of l.a q))) no_turn l.xs l.ys l.n l.i l.t × (l.last ≡ angle_of l.a (point_at l.xs l.ys (l.i - 1)))
 
 abbrev pub decreases-loop-i : goal.decreases-loop-i
 decreases-loop-i l = l.n - l.i
