@@ -26,6 +26,7 @@ module _ {A : Type 0} {Good : A → Type 0} {AtFault : A → Fault → Type 0} {
   pub first_refuses : (xs : List A) (f : Fault) → FirstAtFault Good AtFault xs f → checksOf xs ≡ check.Refused f
   first_refuses (x ∷ xs) f (here e) = rw (each.next x xs, each.caused x f e)
   first_refuses (x ∷ xs) f (later g e) = rw (each.next x xs, each.passes x g) (first_refuses xs f e)
+  first_refuses [] f h = elim h [ ]
 
 pub all_decided : {A : Type 0} {Good : A → Type 0} {AtFault : A → Fault → Type 0} → ((x : A) → Decided (Good x) (AtFault x))
     → (xs : List A) → Decided (All Good xs) (FirstAtFault Good AtFault xs)

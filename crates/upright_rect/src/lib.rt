@@ -14,6 +14,7 @@ use geometry::Transform2D;
 use shape::{BoxAnswer, MaybeBox, RoundedBox};
 
 // The box, where it is an upright rect.
+#[tactic(auto, unfolding(crate::specs::UprightRect::upright_only_of))]
 fn upright_only(b: RoundedBox) -> MaybeBox
     ensures { result ≡ upright_only_of b }
 {

@@ -1,5 +1,4 @@
 -- `beside::parallel` meets its contract. Assumes nothing.
-use borrow.Author.Rules.{rules}
 use Rattle.beside.proofs.parallel.Goals as goal
 
 pub returns-in-Refused : goal.returns-in-Refused

@@ -1,5 +1,4 @@
 -- `beside::parallel_unchecked` meets its contract. Assumes nothing.
-use borrow.Author.Rules.{rules}
 use Rattle.beside.proofs.parallel_unchecked.Goals as goal
 
 pub returns-in-Placed : goal.returns-in-Placed

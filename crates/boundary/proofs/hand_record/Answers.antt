@@ -6,6 +6,7 @@ use native.Mathlib.Omega.{arith}
 use lib.ListN.{length, set, drop}
 use mir.Syntax.{w32}
 use mir.Val.{to_z, of_z}
+use mir.Val.{SFits}
 use mir.ValLaws.{to_z-of_z}
 use borrow.Author.Rules.{rules}
 use Rattle.cells.specs.declared.MaskRecord.{MaskRecord}
@@ -17,27 +18,14 @@ both [] a b h = absurd (omega arith)
 both (x ∷ []) a b h = absurd (omega arith)
 both (x ∷ y ∷ rest) a b h = refl
 
--- a corner's numbers fit
-module _ (t : tie.After-struct-told) where
-  abbrev r : MaskRecord
-  r = t.before.before.answer.given.0.0
-
-  x_is : to_z w32 (of_z w32 r.corner.x) ≡ r.corner.x
-  x_is = to_z-of_z w32 r.corner.x (record { sfits = t.struct_told.given.1.0.1.1.0.1 })
-
-  y_is : to_z w32 (of_z w32 r.corner.y) ≡ r.corner.y
-  y_is = to_z-of_z w32 r.corner.y (record { sfits = t.struct_told.given.1.0.1.1.1.0.1 })
-
 pub returns-in-Read : goal.returns-in-Read
 returns-in-Read c =
-    let size = (r t).size in
-    rw (c.in-Read.is, x_is t, y_is t) (
-      refl,
-      (
-        both c.args.size.now size.width size.height c.requires.0,
-        both c.args.corner.now (r t).corner.x (r t).corner.y c.requires.1,
-      ),
-    )
-
-pub returns-in-Refused : goal.returns-in-Refused
-returns-in-Refused c = rw c.in-Refused.is (c.number.ensures, (refl, refl))
+    let r = c.in-Read.read in
+    let x : SFits w32 r.corner.x = search rules in
+    let y : SFits w32 r.corner.y = search rules in
+    rw (c.in-Read.is, to_z-of_z w32 r.corner.x x, to_z-of_z w32 r.corner.y y)
+    (record {
+      value = refl;
+      size_after = both c.args.size.now r.size.width r.size.height c.requires.0;
+      corner_after = both c.args.corner.now r.corner.x r.corner.y c.requires.1;
+    })

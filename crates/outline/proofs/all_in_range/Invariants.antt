@@ -1,10 +1,8 @@
 -- `outline::all_in_range` meets its contract: the numbers passed so far are in range. Assumes nothing.
 use Prim.Native.Nat.{◌-◌}
-use borrow.Author.Rules.{rules}
-use Rattle.outline.proofs.Scan.{Left, left_all, number_out, number_in, numbers_in}
+use Rattle.outline.proofs.Scan.{Left}
 use Rattle.outline.specs.Outline.{all_in_range_of}
 use lib.ListN.{length}
-use native.Mathlib.Omega.{arith}
 use Rattle.outline.proofs.all_in_range.Given as goal
 
 abbrev pub invariant-loop-i : goal.invariant-loop-i

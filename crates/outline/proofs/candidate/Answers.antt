@@ -1,5 +1,4 @@
 -- `outline::candidate` meets its contract. Assumes nothing.
-use borrow.Author.Rules.{rules}
 use Rattle.outline.proofs.candidate.Goals as goal
 
 pub returns-in-MoveTo : goal.returns-in-MoveTo

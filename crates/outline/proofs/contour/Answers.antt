@@ -1,13 +1,9 @@
 -- `outline::contour` meets its contract: the walk so far stands for a contour, from which the verbs left lead to
 -- where all lead. Assumes nothing.
-use Prim.Native.Nat.{◌-◌, ◌<◌, ◌≤◌}
 use mathlib.Core.Path.{sym, ◌∙◌}
-use borrow.Author.Rules.{rules}
-use Rattle.outline.specs.Outline.{most_verbs, most_points}
 use Rattle.outline.proofs.Scan.{floats_next}
-use Rattle.outline.proofs.Contouring.{Walking, begins, has_room, bad_byte, room, stops, goes}
-use Rattle.outline.proofs.Ends.{Ends, no_ends, ends_kept, ends_all}
-use lib.ListN.{length}
+use Rattle.outline.proofs.Contouring.{begins, has_room, bad_byte, room, stops, goes}
+use Rattle.outline.proofs.Ends.{no_ends, ends_kept, ends_all}
 use native.Mathlib.Omega.{arith}
 use Rattle.outline.proofs.contour.Goals as goal
 

@@ -2,7 +2,6 @@
 use Rattle.outline.proofs.Scan.{packed_le}
 use Rattle.outline.specs.Outline.{floats_of}
 use native.Mathlib.Omega.{arith}
-use borrow.Author.Rules.{rules}
 use Rattle.outline.proofs.floats.Goals as goal
 
 pub returns-in_default : goal.returns-in_default

@@ -1,9 +1,6 @@
 -- `outline::floats_needed` meets its contract: the sum so far with what the verbs left need is what all need. Assumes
 -- nothing.
-use Prim.Native.Nat.{◌-◌}
-use borrow.Author.Rules.{rules}
-use Rattle.outline.proofs.Scan.{Summed, sum_next, sum_all}
-use lib.ListN.{length}
+use Rattle.outline.proofs.Scan.{sum_next, sum_all}
 use native.Mathlib.Omega.{arith}
 use Rattle.outline.proofs.floats_needed.Goals as goal
 

@@ -1,10 +1,8 @@
 -- `outline::floats_needed` meets its contract: the sum so far with what the verbs left need is what all need. Assumes
 -- nothing.
 use Prim.Native.Nat.{◌-◌}
-use borrow.Author.Rules.{rules}
-use Rattle.outline.proofs.Scan.{Summed, sum_next, sum_all}
+use Rattle.outline.proofs.Scan.{Summed}
 use lib.ListN.{length}
-use native.Mathlib.Omega.{arith}
 use Rattle.outline.proofs.floats_needed.Given as goal
 
 abbrev pub invariant-loop-i : goal.invariant-loop-i

@@ -1,7 +1,6 @@
 -- `outline::outline_check` meets its contract. Assumes nothing.
 use Rattle.outline.specs.Outline.{outline_check_of}
 use borrow.Author.Tests.{le-leb, lt-leb, eq-eqb, ne_eqb}
-use borrow.Author.Rules.{rules}
 use Rattle.outline.proofs.outline_check.Goals as goal
 
 pub returns-then-verbs-gt-MOST_VERBS : goal.returns-then-verbs-gt-MOST_VERBS

@@ -1,14 +1,9 @@
 -- `outline::segments` meets its contract: the walk so far stands for a contour, from which the verbs left lead to
 -- where all lead, and its segments are stored. Assumes nothing.
-use Prim.Native.Nat.{◌-◌, ◌<◌, ◌≤◌}
-use mathlib.Core.Path.{refl, sym, ◌∙◌}
-use borrow.Author.Rules.{rules}
-use Rattle.outline.specs.Outline.{most_verbs}
-use Rattle.outline.proofs.Scan.{floats_next}
-use Rattle.outline.proofs.Contouring.{Walking, begins, count_fits, bad_byte, room, stops, goes}
-use Rattle.outline.proofs.Storing.{Pieces, none_stored, pieces_kept, pieces_all}
+use Prim.Native.Nat.{◌-◌}
+use Rattle.outline.proofs.Contouring.{Walking}
+use Rattle.outline.proofs.Storing.{Pieces}
 use lib.ListN.{length}
-use native.Mathlib.Omega.{arith}
 use Rattle.outline.proofs.segments.Given as goal
 
 abbrev pub invariant-loop-i : goal.invariant-loop-i

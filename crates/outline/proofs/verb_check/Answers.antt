@@ -1,6 +1,5 @@
 -- `outline::verb_check` meets its contract. Assumes nothing.
 use Rattle.outline.specs.Outline.{verb_check_of}
-use borrow.Author.Rules.{rules}
 use Rattle.outline.proofs.verb_check.Goals as goal
 
 pub returns-in-Verb : goal.returns-in-Verb

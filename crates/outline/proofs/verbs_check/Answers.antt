@@ -1,10 +1,6 @@
 -- `outline::verbs_check` meets its contract: the verbs passed so far pass their checks, so the first fault is among
 -- those left. Assumes nothing.
-use Prim.Native.Nat.{◌-◌}
-use borrow.Author.Rules.{rules}
-use Rattle.outline.proofs.Scan.{Left, left_all, verb_refused, verb_passes, verbs_pass}
-use Rattle.outline.specs.Outline.{verbs_check_of}
-use lib.ListN.{length}
+use Rattle.outline.proofs.Scan.{left_all, verb_refused, verb_passes, verbs_pass}
 use native.Mathlib.Omega.{arith}
 use Rattle.outline.proofs.verbs_check.Goals as goal
 

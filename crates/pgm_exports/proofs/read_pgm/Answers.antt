@@ -1,12 +1,12 @@
 -- `pgm_exports::read_pgm` meets its contract. Assumes nothing.
 use mathlib.Core.Path.{◌≡◌, refl, ◌∙◌}
 use mathlib.Core.Bool.{true}
-use mathlib.Core.Logic.{inl, inr, ⊎_elim}
+use mathlib.Core.Logic.{◌⊎◌, inl, inr}
 use mathlib.Core.List.{List}
-use Prim.Native.Nat.{ℕ, ◌≤◌}
+use Prim.Native.Nat.{ℕ, ◌<◌}
 use lib.IntN.{ℤ}
 use lib.ListN.{length}
-use borrow.Author.Tests.{ltb-true, ltb-false, le-ltb}
+use borrow.Author.Tests.{le-ltb}
 use borrow.Author.Rules.{rules}
 use Rattle.ink.specs.Lent.{lent}
 use Rattle.pgm.specs.declared.ReadAnswer.{ReadAnswer}
@@ -16,6 +16,7 @@ use Rattle.boundary.specs.Answers.{size_after, corner_after}
 use Rattle.pgm_exports.specs.Calls.{record_short}
 use Rattle.pgm_exports.proofs.Laws.{short_true}
 use Rattle.pgm_exports.proofs.read_pgm.Goals as goal
+use Rattle.pgm_exports.proofs.read_pgm.Goals.{then-size-lt-SIZE-via-then-size-lt-SIZE, then-size-lt-SIZE-via-else-size-lt-SIZE+then-corner-lt-CORNER}
 
 -- where too little is lent for the record, nothing is changed
 mask_kept : (a : ReadAnswer) (file mask : List ℕ) → mask ≡ mask_after_reading (record_short true a) file mask
@@ -34,33 +35,36 @@ corner_kept : (a : ReadAnswer) (lent : List ℤ) → lent ≡ corner_after (reco
 corner_kept (read.Read r) lent = refl
 corner_kept (read.Refused f) lent = refl
 
--- where enough is
-module _ (e : tie.Else2) where
-  abbrev start : tie.Start
-  start = e.before.before.before.before.before.before
-
-  enough : (2 ≤ length start.args.size.now) × (2 ≤ length start.args.corner.now)
-  enough = (e.before.if1.left, ltb-false _ _ e.if2.left)
-
 pub returns-then-size-lt-SIZE : goal.returns-then-size-lt-SIZE
 returns-then-size-lt-SIZE c =
     let args = c.args in
     let a = read_call args.file.now (lent args.mask.now args.ink.now) in
-    let short = ⊎_elim (λ size. inl size.taken) (λ corner. inr (ltb-true _ _ corner.1.taken)) c.then-size-lt-SIZE.branch in
-    rw (short_true (length args.size.now) (length args.corner.now) short) (
-      c.refuse.ensures.value,
-      (
-        c.refuse.ensures.mask_unchanged ∙ mask_kept a args.file.now args.mask.now,
-        (c.refuse.ensures.ink_unchanged ∙ ink_kept a _ args.ink.now, (size_kept a args.size.now, corner_kept a args.corner.now)),
-      ),
-    )
+    let short : (length args.size.now < 2) ⊎ (length args.corner.now < 2) =
+        elim c.then-size-lt-SIZE.branch [
+          then-size-lt-SIZE-via-then-size-lt-SIZE w ↦ inl w.if-size-lt-SIZE.true
+        | then-size-lt-SIZE-via-else-size-lt-SIZE+then-corner-lt-CORNER w ↦ inr w.if-corner-lt-CORNER.true
+        ] in
+    rw (short_true (length args.size.now) (length args.corner.now) short)
+    (record {
+      number = c.refuse.ensures.value;
+      cells = c.refuse.ensures.mask_unchanged ∙ mask_kept a args.file.now args.mask.now;
+      ink = c.refuse.ensures.ink_unchanged ∙ ink_kept a _ args.ink.now;
+      size = size_kept a args.size.now;
+      corner = corner_kept a args.corner.now;
+    })
 
 pub hand_record-requires : goal.hand_record-requires
-hand_record-requires c = enough c
+hand_record-requires c = (c.if-size-lt-SIZE.false, c.if-corner-lt-CORNER.false)
 
 pub returns : goal.returns
 returns c =
-    let args = (start e).args in
+    let args = c.args in
     let ink = rw c.read_pgm.ensures.cells at c.read_pgm.ensures.ink in
-    rw (le-ltb (length args.size.now) 2 (enough e).0, le-ltb (length args.corner.now) 2 (enough e).1, ← c.read_pgm.ensures.answer)
-    (c.hand_record.ensures.value, (c.read_pgm.ensures.cells, (ink, c.hand_record.ensures.1)))
+    rw (le-ltb (length args.size.now) 2 c.if-size-lt-SIZE.false, le-ltb (length args.corner.now) 2 c.if-corner-lt-CORNER.false, ← c.read_pgm.ensures.answer)
+    (record {
+      number = c.hand_record.ensures.value;
+      cells = c.read_pgm.ensures.cells;
+      ink = ink;
+      size = c.hand_record.ensures.size_after;
+      corner = c.hand_record.ensures.corner_after;
+    })

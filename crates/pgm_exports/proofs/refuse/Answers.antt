@@ -17,9 +17,9 @@ pub returns-in-Refused : goal.returns-in-Refused
 returns-in-Refused c =
     let args = c.args in
     let refused = rw c.in-Refused.is at c.read_pgm.ensures in
-    let answer = refused.0 ∙ unlent args.file.now (lent args.mask.now args.ink.now) in
+    let answer = refused.answer ∙ unlent args.file.now (lent args.mask.now args.ink.now) in
     record {
       value = c.number.ensures ∙ ap read_number answer;
-      mask_unchanged = ap (λ (l : List ℕ). l ++ args.mask.now) refused.1.0;
-      ink_unchanged = ap (λ (l : List ℕ). l ++ args.ink.now) refused.1.1;
+      mask_unchanged = ap (λ (l : List ℕ). l ++ args.mask.now) refused.cells;
+      ink_unchanged = ap (λ (l : List ℕ). l ++ args.ink.now) refused.ink;
     }

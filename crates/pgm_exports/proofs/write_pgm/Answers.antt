@@ -29,4 +29,4 @@ write_number-requires c =
 
 pub returns : goal.returns
 returns c =
-    rw (← c.write_pgm.ensures.answer) (c.write_number.ensures, c.write_pgm.ensures.file)
+    rw (← c.write_pgm.ensures.answer) (record { number = c.write_number.ensures; file = c.write_pgm.ensures.file })

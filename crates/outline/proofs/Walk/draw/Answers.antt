@@ -1,6 +1,5 @@
 -- `outline::Walk::draw` meets its contract. Assumes nothing.
 use Rattle.outline.proofs.Walking.{draw_shut, draw_same, draw_line, draw_curve}
-use borrow.Author.Rules.{rules}
 use Rattle.outline.proofs.Walk.draw.Goals as goal
 
 pub returns-then-shut : goal.returns-then-shut

@@ -1,7 +1,6 @@
 -- `outline::Walk::pushed` meets its contract. Assumes nothing.
 use mathlib.Core.Path.{refl}
 use Rattle.outline.specs.Kept.{walk_pushed_of}
-use borrow.Author.Rules.{rules}
 use Rattle.outline.proofs.Walk.pushed.Goals as goal
 
 pub returns : goal.returns

@@ -1,6 +1,5 @@
 -- `outline::Walk::step` meets its contract. Assumes nothing.
 use Rattle.outline.specs.Kept.{walk_of, walk_closed_of}
-use borrow.Author.Rules.{rules}
 use Rattle.outline.proofs.Walk.step.Goals as goal
 
 pub draw-requires : goal.draw-requires

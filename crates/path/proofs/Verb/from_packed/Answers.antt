@@ -3,7 +3,6 @@
 use mathlib.Core.Path.{ap}
 use native.Mathlib.Omega.{arith}
 use Rattle.path.specs.Verbs.{num_coordinates_of}
-use borrow.Author.Rules.{rules}
 use Rattle.path.proofs.Verb.from_packed.Goals as goal
 
 pub move_to-requires : goal.move_to-requires

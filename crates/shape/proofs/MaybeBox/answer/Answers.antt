@@ -1,5 +1,4 @@
 -- `shape::MaybeBox::answer` meets its contract. Assumes nothing.
-use borrow.Author.Rules.{rules}
 use Rattle.shape.proofs.MaybeBox.answer.Goals as goal
 
 pub returns-in_default : goal.returns-in_default

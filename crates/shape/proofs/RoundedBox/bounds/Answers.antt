@@ -1,5 +1,4 @@
 -- `shape::RoundedBox::bounds` meets its contract. Assumes nothing.
-use borrow.Author.Rules.{rules}
 use Rattle.shape.proofs.RoundedBox.bounds.Goals as goal
 
 pub returns-in-Refused : goal.returns-in-Refused

@@ -1,6 +1,5 @@
 -- `shape::RoundedBox::outline_point` meets its contract. Assumes nothing.
 use Rattle.shape.specs.Outline.{outline_point_of}
-use borrow.Author.Rules.{rules}
 use Rattle.shape.proofs.RoundedBox.outline_point.Goals as goal
 
 pub returns : goal.returns

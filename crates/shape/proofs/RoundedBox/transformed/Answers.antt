@@ -1,5 +1,4 @@
 -- `shape::RoundedBox::transformed` meets its contract. Assumes nothing.
-use borrow.Author.Rules.{rules}
 use Rattle.shape.proofs.RoundedBox.transformed.Goals as goal
 
 pub returns-in-Refused : goal.returns-in-Refused
