@@ -158,18 +158,18 @@ pub single_is : (cells : Cells) (cell : ℕ) (middle area : Float) {c₁ c₂ : 
 unfolding single_of
 single_is cells cell middle area p q = rw p at q
 
-module _ (cells : Cells) (cell last : ℕ) (area perCell enters head tail : Float) where
+module _ (cells : Cells) (cell last : ℕ) (area per_cell enters head tail : Float) where
   abbrev second : Float
-  second = perCell ⊗ (enters ⊕ f½)
+  second = per_cell ⊗ (enters ⊕ f½)
 
   pub between_one : {c₁ : Cells} → last ≡ cell + 2 → c₁ ≡ add_of cells (cell + 1) (area ⊗ (f1 ⊖ head ⊖ tail))
-      → c₁ ≡ between_of cells cell last area perCell enters head tail
+      → c₁ ≡ between_of cells cell last area per_cell enters head tail
   unfolding between_of
   between_one h p = rw (eq-eqb last (cell + 2) h) p
 
   pub between_more : {c₁ c₂ c₃ : Cells} {x : Float} → (last ≡ cell + 2 → ⊥) → c₁ ≡ add_of cells (cell + 1) (area ⊗ (second ⊖ head))
-      → c₂ ≡ evenly_of (last - 1 - (cell + 2)) c₁ (cell + 2) (area ⊗ perCell) → x ≡ of_whole (last - cell - 3)
-      → c₃ ≡ add_of c₂ (last - 1) (area ⊗ (f1 ⊖ (second ⊕ x ⊗ perCell) ⊖ tail)) → c₃ ≡ between_of cells cell last area perCell enters head tail
+      → c₂ ≡ evenly_of (last - 1 - (cell + 2)) c₁ (cell + 2) (area ⊗ per_cell) → x ≡ of_whole (last - cell - 3)
+      → c₃ ≡ add_of c₂ (last - 1) (area ⊗ (f1 ⊖ (second ⊕ x ⊗ per_cell) ⊖ tail)) → c₃ ≡ between_of cells cell last area per_cell enters head tail
   unfolding between_of
   between_more h p q ex r = rw (ne_eqb last (cell + 2) h) (rw (q, p, ex) at r)
 

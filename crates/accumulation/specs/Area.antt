@@ -29,22 +29,22 @@ single_of cells cell middle area = add_of (add_of cells cell (area ⊗ (f1 ⊖ m
 -- what an edge across cells adds between its first cell and its last
 unfoldable pub between_of : Cells → ℕ → ℕ → Float → Float → Float → Float → Float → Cells
 unfolding add_of evenly_of
-between_of cells cell last area perCell enters head tail =
-    let second = perCell ⊗ (enters ⊕ f½) in
-    let beforeLast = second ⊕ of_whole (last - cell - 3) ⊗ perCell in
+between_of cells cell last area per_cell enters head tail =
+    let second = per_cell ⊗ (enters ⊕ f½) in
+    let before_last = second ⊕ of_whole (last - cell - 3) ⊗ per_cell in
     cond (eqb last (cell + 2))
     (add_of cells (cell + 1) (area ⊗ (f1 ⊖ head ⊖ tail)))
-    (add_of (evenly_of (last - 1 - (cell + 2)) (add_of cells (cell + 1) (area ⊗ (second ⊖ head))) (cell + 2) (area ⊗ perCell)) (last - 1)
-    (area ⊗ (f1 ⊖ beforeLast ⊖ tail)))
+    (add_of (evenly_of (last - 1 - (cell + 2)) (add_of cells (cell + 1) (area ⊗ (second ⊖ head))) (cell + 2) (area ⊗ per_cell)) (last - 1)
+    (area ⊗ (f1 ⊖ before_last ⊖ tail)))
 
 -- 'Across cells the edge's height is spread evenly along x: a triangle in the first and the last cell, a trapezoid in
 -- between.'
 unfoldable pub across_of : Cells → Float → Float → ℕ → ℕ → Float → Cells
 unfolding add_of between_of
 across_of cells lo hi cell last area =
-    let perCell = f1 ⊘ (hi ⊖ lo) in
+    let per_cell = f1 ⊘ (hi ⊖ lo) in
     let enters = f1 ⊖ (lo ⊖ of_whole cell) in
     let leaves = hi ⊖ (of_whole last ⊖ f1) in
-    let head = f½ ⊗ perCell ⊗ enters ⊗ enters in
-    let tail = f½ ⊗ perCell ⊗ leaves ⊗ leaves in
-    add_of (between_of (add_of cells cell (area ⊗ head)) cell last area perCell enters head tail) last (area ⊗ tail)
+    let head = f½ ⊗ per_cell ⊗ enters ⊗ enters in
+    let tail = f½ ⊗ per_cell ⊗ leaves ⊗ leaves in
+    add_of (between_of (add_of cells cell (area ⊗ head)) cell last area per_cell enters head tail) last (area ⊗ tail)

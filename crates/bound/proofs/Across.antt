@@ -1,6 +1,6 @@
 -- A piece across cells: what is worked out of it, how far each number is off, and the sums of the entries against G. e
 -- and l are how far it reaches into its first and its last cell, r is 1 / (hi - lo). Assumes nothing.
-use mathlib.Core.Path.{◌≡◌, refl, sym, ap, subst}
+use mathlib.Core.Path.{◌≡◌, refl, ap, subst}
 use mathlib.Core.List.{List, [], ◌∷◌, ◌++◌}
 use mathlib.Core.Bool.{Bool, true, false, not}
 use Prim.Native.Nat.{ℕ, zero, suc, ◌+◌, ◌-◌, ◌*◌, ◌^◌, ◌≤◌, ◌<◌, min}

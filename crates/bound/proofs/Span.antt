@@ -151,17 +151,17 @@ module _ (w : ℕ) (small : w ≤ 4096) where
     i_n0 : natᶠ 0 ≤ᶠ i_n
     i_n0 = over (val lo ∷ natᶠ w ∷ natᶠ 0 ∷ []) (λ N m X Z O. le_at N O (sub_at N Z X) m (omega (arith, O.is, at_lt N X Z m lo<w)))
 
-    i_nD : i_n ≤ᶠ i_d
-    i_nD = over (val lo ∷ val hi ∷ natᶠ w ∷ []) (λ N m X Y Z. le_at N (sub_at N Z X) (sub_at N Y X) m (omega (arith, at_lt N Z Y m w<hi)))
+    i_nd : i_n ≤ᶠ i_d
+    i_nd = over (val lo ∷ val hi ∷ natᶠ w ∷ []) (λ N m X Y Z. le_at N (sub_at N Z X) (sub_at N Y X) m (omega (arith, at_lt N Z Y m w<hi)))
 
     abbrev I : Fraction
-    I = part i_n i_d i_n0 i_d0 i_nD
+    I = part i_n i_d i_n0 i_d0 i_nd
 
     I0 : natᶠ 0 ≤ᶠ I
-    I0 = part_lo i_n i_d i_n0 i_d0 i_nD
+    I0 = part_lo i_n i_d i_n0 i_d0 i_nd
 
     I1 : I ≤ᶠ natᶠ 1
-    I1 = part_hi i_n i_d i_n0 i_d0 i_nD
+    I1 = part_hi i_n i_d i_n0 i_d0 i_nd
 
     L' : Num lo (natᶠ 4096)
     L' = in_row lo L z (of_lt lo<w)
@@ -177,7 +177,7 @@ module _ (w : ℕ) (small : w ≤ 4096) where
     i' = (W ⊖ lo) ⊘ (hi ⊖ lo)
 
     i_ok : Known binary32 i' I (natᶠ 1) quotient_error
-    i_ok = quotient (approx_rounds num_ok (sub-fits binary32 W lo)) (approx_rounds den_ok (sub-fits binary32 hi lo)) (above_not i_d0) (part_is i_n i_d i_n0 i_d0 i_nD)
+    i_ok = quotient (approx_rounds num_ok (sub-fits binary32 W lo)) (approx_rounds den_ok (sub-fits binary32 hi lo)) (above_not i_d0) (part_is i_n i_d i_n0 i_d0 i_nd)
         (within_weaken (within_self I0) I1)
 
     abbrev a' : Float
@@ -201,7 +201,7 @@ module _ (w : ℕ) (small : w ≤ 4096) where
           let g = G c (val lo) (natᶠ w) in
           let range = G-range c (val lo) (natᶠ w) in
           let cut = near_to (mul_cong (val a') (G-cong c (refl≈ _) W-is.eq)) (inner.near c k) in
-          near_to (trans≈ (mul_assoc (val a) I g) (mul_cong (val a) (sym≈ (G-cut-right c w (val lo) (val hi) I k lo<w w<hi (part_is i_n i_d i_n0 i_d0 i_nD)))))
+          near_to (trans≈ (mul_assoc (val a) I g) (mul_cong (val a) (sym≈ (G-cut-right c w (val lo) (val hi) I k lo<w w<hi (part_is i_n i_d i_n0 i_d0 i_nd)))))
           (near_weaken (near_trans cut (by_part range.0 range.1 (lit tt) a_ok.1)) (unfold ◌+ᶠ◌ in lit tt));
       size =
           let B = absᶠ (val a) in
@@ -246,22 +246,22 @@ module _ (w : ℕ) (small : w ≤ 4096) where
     o_n0 : natᶠ 0 ≤ᶠ o_n
     o_n0 = over (val lo ∷ natᶠ 0 ∷ []) (λ N m X O. le_at N O (neg_at N X) m (omega (arith, O.is, at_lt N X O m lo<0)))
 
-    o_nD : o_n ≤ᶠ o_d
-    o_nD = over (val lo ∷ val hi ∷ natᶠ 0 ∷ []) (λ N m X Y O. le_at N (neg_at N X) (sub_at N Y X) m (omega (arith, O.is, at_lt N O Y m 0<hi)))
+    o_nd : o_n ≤ᶠ o_d
+    o_nd = over (val lo ∷ val hi ∷ natᶠ 0 ∷ []) (λ N m X Y O. le_at N (neg_at N X) (sub_at N Y X) m (omega (arith, O.is, at_lt N O Y m 0<hi)))
 
     abbrev O : Fraction
-    O = part o_n o_d o_n0 o_d0 o_nD
+    O = part o_n o_d o_n0 o_d0 o_nd
 
     O0 : natᶠ 0 ≤ᶠ O
-    O0 = part_lo o_n o_d o_n0 o_d0 o_nD
+    O0 = part_lo o_n o_d o_n0 o_d0 o_nd
 
     O1 : O ≤ᶠ natᶠ 1
-    O1 = part_hi o_n o_d o_n0 o_d0 o_nD
+    O1 = part_hi o_n o_d o_n0 o_d0 o_nd
 
     turned : O *ᶠ (val lo -ᶠ val hi) ≈ᶠ val lo
     turned = let ρ = O ∷ val lo ∷ val hi ∷ [] in let R = reps ρ in
         let m = ring ρ {x = O *ᶠ (val lo -ᶠ val hi)} {y = negᶠ (O *ᶠ (val hi -ᶠ val lo))} (search rep depth 7) (search rep depth 7) tt in
-        over (O *ᶠ (val lo -ᶠ val hi) ∷ O *ᶠ o_d ∷ val lo ∷ []) (λ N k X Y Z. eq_at N X Z k (omega (arith, at_eq N X (neg_at N Y) m, at_eq N Y (neg_at N Z) (part_is o_n o_d o_n0 o_d0 o_nD))))
+        over (O *ᶠ (val lo -ᶠ val hi) ∷ O *ᶠ o_d ∷ val lo ∷ []) (λ N k X Y Z. eq_at N X Z k (omega (arith, at_eq N X (neg_at N Y) m, at_eq N Y (neg_at N Z) (part_is o_n o_d o_n0 o_d0 o_nd))))
 
     below_zero : ¬ (val lo -ᶠ val hi ≈ᶠ natᶠ 0)
     below_zero e = over (val lo ∷ val hi ∷ natᶠ 0 ∷ []) (λ N m X Y O. omega (arith, O.is, at_eq N (sub_at N X Y) O e, at_lt N X O m lo<0, at_lt N O Y m 0<hi))
@@ -317,7 +317,7 @@ module _ (w : ℕ) (small : w ≤ 4096) where
           let ρ = val a ∷ O ∷ g ∷ [] in
           let P = reps ρ in
           let sum = ring ρ {x = val a *ᶠ O +ᶠ val a *ᶠ (natᶠ 1 -ᶠ O) *ᶠ g} {y = val a *ᶠ (O +ᶠ (natᶠ 1 -ᶠ O) *ᶠ g)} (search rep depth 9) (search rep depth 9) tt in
-          let exact = G-cut-left c (val lo) (val hi) O lo<0 0<hi (part_is o_n o_d o_n0 o_d0 o_nD) in
+          let exact = G-cut-left c (val lo) (val hi) O lo<0 0<hi (part_is o_n o_d o_n0 o_d0 o_nd) in
           let range = G-range c (natᶠ 0) (val hi) in
           let cut = near_to (mul_cong (val a'') (G-cong c zero_is.eq (refl≈ _))) (rest.near c k) in
           let both = near_add a0_ok.1 (near_trans cut (by_part range.0 range.1 (lit tt) a''_ok.1)) in

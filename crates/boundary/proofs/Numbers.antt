@@ -40,7 +40,7 @@ use Rattle.pgm.specs.declared.WriteAnswer.{WriteAnswer}
 use Rattle.pgm.specs.declared.WriteAnswer.TheVariants as write
 use Rattle.pgm.specs.declared.ReadAnswer.{ReadAnswer}
 use Rattle.pgm.specs.declared.ReadAnswer.TheVariants as read
-use Rattle.boundary.specs.Outcomes.{Ordinary, done, none, yes, no, noFrame, shared, covered, cut, counted, ordinary_number}
+use Rattle.boundary.specs.Outcomes.{Ordinary, done, none, yes, no, no_frame, shared, covered, cut, counted, ordinary_number}
 use Rattle.boundary.specs.Answers.{box_handed, coverage_handed, bounds_handed, distance_handed, both_box_handed, fill_handed, outline_handed, cut_handed}
 use Rattle.boundary.specs.Answers.{reach_handed, test_number, touch_number, inside_number, write_number, read_number}
 use Rattle.boundary.specs.Numbers.{CauseExactlyWhen, NumbersApart}
@@ -52,7 +52,7 @@ outside done low high = omega arith
 outside none low high = omega arith
 outside yes low high = omega arith
 outside no low high = omega arith
-outside noFrame low high = omega arith
+outside no_frame low high = omega arith
 outside shared low high = omega arith
 outside covered low high = omega arith
 outside cut low high = omega arith
@@ -63,14 +63,14 @@ apart o f e = let least = cause_numbers.least f in let most = cause_numbers.most
 
 -- those below what is counted, by number; then what is counted
 abbrev outcome_at : ℕ → Ordinary
-outcome_at n = get_or (done ∷ []) n (get_or (none ∷ yes ∷ no ∷ noFrame ∷ shared ∷ covered ∷ cut ∷ []) (n - 32) (counted (n - 256)))
+outcome_at n = get_or (done ∷ []) n (get_or (none ∷ yes ∷ no ∷ no_frame ∷ shared ∷ covered ∷ cut ∷ []) (n - 32) (counted (n - 256)))
 
 own_outcome : (o : Ordinary) → outcome_at (ordinary_number o) ≡ o
 own_outcome done = refl
 own_outcome none = refl
 own_outcome yes = refl
 own_outcome no = refl
-own_outcome noFrame = refl
+own_outcome no_frame = refl
 own_outcome shared = refl
 own_outcome covered = refl
 own_outcome cut = refl
@@ -78,7 +78,7 @@ own_outcome (counted k) =
     let past_first : 1 ≤ 256 + k = omega arith in
     let past_all : 7 ≤ 256 + k - 32 = omega arith in
     get_or-eq_default (done ∷ []) _ past_first
-    ∙ get_or-eq_default (none ∷ yes ∷ no ∷ noFrame ∷ shared ∷ covered ∷ cut ∷ []) _ past_all
+    ∙ get_or-eq_default (none ∷ yes ∷ no ∷ no_frame ∷ shared ∷ covered ∷ cut ∷ []) _ past_all
     ∙ ap counted (omega arith)
 
 outcomes : (o p : Ordinary) → ordinary_number o ≡ ordinary_number p → o ≡ p
@@ -163,7 +163,7 @@ test_within (test.Refused f) low high = (f, refl)
 
 touch_within : (a : TouchAnswer) → 1 ≤ touch_number a → touch_number a ≤ 31 → (f : Fault) × (a ≡ touched.Refused f)
 touch_within (touched.Frame k) low high = absurd (outside (counted k) low high)
-touch_within touched.NoFrame low high = absurd (outside noFrame low high)
+touch_within touched.NoFrame low high = absurd (outside no_frame low high)
 touch_within (touched.Refused f) low high = (f, refl)
 
 inside_within : (a : InsideAnswer) → 1 ≤ inside_number a → inside_number a ≤ 31 → (f : Fault) × (a ≡ insides.Refused f)

@@ -35,7 +35,7 @@ use Rattle.pgm.specs.declared.WriteAnswer.TheVariants as write
 use Rattle.pgm.specs.declared.ReadAnswer.{ReadAnswer}
 use Rattle.pgm.specs.declared.ReadAnswer.TheVariants as read
 use Rattle.lent_floats.specs.Lent.{box_floats, coverage_floats, bounds_floats, outline_floats, cut_outline_floats, over}
-use Rattle.boundary.specs.Outcomes.{Ordinary, ordinary_number, done, none, yes, no, noFrame, shared, covered, cut, counted}
+use Rattle.boundary.specs.Outcomes.{Ordinary, ordinary_number, done, none, yes, no, no_frame, shared, covered, cut, counted}
 
 pub record Handed : Type 0 where
   pub number : ℕ
@@ -127,7 +127,7 @@ test_number (test.Refused f) = number_of f
 -- the place, 'a 16-bit number' (document 02, change 7), 'counted from 0', or "no frame"
 abbrev pub touch_number : TouchAnswer → ℕ
 touch_number (touched.Frame k) = ordinary_number (counted k)
-touch_number touched.NoFrame = ordinary_number noFrame
+touch_number touched.NoFrame = ordinary_number no_frame
 touch_number (touched.Refused f) = number_of f
 
 -- yes for all inside, the lowest place outside, or "no box" (document 02, change 10)

@@ -6,7 +6,7 @@ use Rattle.std.specs.Prelude.{ℕ, ◌+◌}
 -- 'a shared box or a covered one'; cut: a box with 'the cut box where one side is square'; what is counted: a place in a
 -- list, from 0, or the length of a file
 pub data Ordinary : Type 0 where
-  done none yes no noFrame shared covered cut : Ordinary
+  done none yes no no_frame shared covered cut : Ordinary
   counted : ℕ → Ordinary
 
 abbrev pub ordinary_number : Ordinary → ℕ
@@ -14,7 +14,7 @@ ordinary_number done = 0
 ordinary_number none = 32
 ordinary_number yes = 33
 ordinary_number no = 34
-ordinary_number noFrame = 35
+ordinary_number no_frame = 35
 ordinary_number shared = 36
 ordinary_number covered = 37
 ordinary_number cut = 38

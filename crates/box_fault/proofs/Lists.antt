@@ -11,19 +11,19 @@ use Rattle.boxes.specs.Laws.{All}
 use Rattle.box_fault.specs.Causes.{FirstAtFault, here, later}
 use Rattle.fault.proofs.Decided.{Decided}
 
-pub record EachChecked {A : Type 0} (Good : A → Type 0) (AtFault : A → Fault → Type 0) (checkOf : A → Check) (checksOf : List A → Check) : Type 0 where
-  pub none : checksOf [] ≡ check.Pass
-  pub next : (x : A) (xs : List A) → checksOf (x ∷ xs) ≡ (checkOf x and_then checksOf xs)
-  pub passes : (x : A) → Good x → checkOf x ≡ check.Pass
-  pub caused : (x : A) (f : Fault) → AtFault x f → checkOf x ≡ check.Refused f
+pub record EachChecked {A : Type 0} (Good : A → Type 0) (AtFault : A → Fault → Type 0) (check_of : A → Check) (checks_of : List A → Check) : Type 0 where
+  pub none : checks_of [] ≡ check.Pass
+  pub next : (x : A) (xs : List A) → checks_of (x ∷ xs) ≡ (check_of x and_then checks_of xs)
+  pub passes : (x : A) → Good x → check_of x ≡ check.Pass
+  pub caused : (x : A) (f : Fault) → AtFault x f → check_of x ≡ check.Refused f
 
-module _ {A : Type 0} {Good : A → Type 0} {AtFault : A → Fault → Type 0} {checkOf : A → Check} {checksOf : List A → Check}
-    (each : EachChecked Good AtFault checkOf checksOf) where
-  pub all_pass : (xs : List A) → All Good xs → checksOf xs ≡ check.Pass
+module _ {A : Type 0} {Good : A → Type 0} {AtFault : A → Fault → Type 0} {check_of : A → Check} {checks_of : List A → Check}
+    (each : EachChecked Good AtFault check_of checks_of) where
+  pub all_pass : (xs : List A) → All Good xs → checks_of xs ≡ check.Pass
   all_pass [] h = each.none
   all_pass (x ∷ xs) h = rw (each.next x xs, each.passes x h.0) (all_pass xs h.1)
 
-  pub first_refuses : (xs : List A) (f : Fault) → FirstAtFault Good AtFault xs f → checksOf xs ≡ check.Refused f
+  pub first_refuses : (xs : List A) (f : Fault) → FirstAtFault Good AtFault xs f → checks_of xs ≡ check.Refused f
   first_refuses (x ∷ xs) f (here e) = rw (each.next x xs, each.caused x f e)
   first_refuses (x ∷ xs) f (later g e) = rw (each.next x xs, each.passes x g) (first_refuses xs f e)
   first_refuses [] f h = elim h [ ]

@@ -17,7 +17,7 @@ use Rattle.corner_radii.specs.Radii.{on_side_of, further_of, reach_step_of, snap
 use Rattle.corner_radii.specs.Mix.{same_of, square_of, round_of, alike_of, cut_of, cut_at_of, mix_of, corner_mix_of}
 use Rattle.rounded.specs.OnBox.{quadrant_of, beside_of, radii_at_of, at_corner_of, corner_met_of, side_met_of, met_of, met_step_of}
 use Rattle.rounded.specs.Turning.{angle_of, step_of, turned_by, once_of}
-use Rattle.rounded.specs.Rounded.{side_xOf, side_yOf, past_of, boxed_of, fitted_of, rounded_by, rounded_of}
+use Rattle.rounded.specs.Rounded.{side_x_of, side_y_of, past_of, boxed_of, fitted_of, rounded_by, rounded_of}
 use Rattle.fit.specs.Fit.{segments_fitted_of, contour_fitted_of, fit_with_cut_of, fit_of}
 use Rattle.examples.specs.Curves.{CurvesFit}
 
@@ -28,7 +28,7 @@ unfolding of_bits of_fields odd units round size span climb of_int add sub sum m
     bezier_of middle_of sample_of outline_from ends_of fold_of pairs_of around_of sized_half_of sized_of
     on_side_of further_of reach_step_of snapped_of radius_of corner_of same_of square_of round_of alike_of cut_of cut_at_of mix_of corner_mix_of
     quadrant_of beside_of radii_at_of at_corner_of corner_met_of side_met_of met_of met_step_of angle_of step_of turned_by once_of
-    side_xOf side_yOf past_of boxed_of fitted_of rounded_by rounded_of segments_fitted_of contour_fitted_of fit_with_cut_of fit_of
+    side_x_of side_y_of past_of boxed_of fitted_of rounded_by rounded_of segments_fitted_of contour_fitted_of fit_with_cut_of fit_of
 curves_fit =
     record {
       circle_fits = refl;

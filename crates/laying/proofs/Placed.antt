@@ -27,9 +27,9 @@ meet_on_the_sheet = record {
     across = from_other own.x other.x (pos column) ∙ h.across;
     down = from_other own.y other.y (pos row) ∙ h.down;
   };
-  always = λ own other column row otherColumn otherRow x y h k. (
-    one_place own.x other.x (pos column) otherColumn (k.across ∙ sym h.across),
-    one_place own.y other.y (pos row) otherRow (k.down ∙ sym h.down),
+  always = λ own other column row other_column other_row x y h k. (
+    one_place own.x other.x (pos column) other_column (k.across ∙ sym h.across),
+    one_place own.y other.y (pos row) other_row (k.down ∙ sym h.down),
   );
 }
 

@@ -34,21 +34,21 @@ starts_kept l row =
     }
 
 -- ---- the starts that a loop keeps: its own mask's, and the other's, which begins at first
-pub record Kept (width otherWidth : ℕ) (first : ℤ) (row own : ℕ) (other : ℤ) : Type 0 where
+pub record Kept (width other_width : ℕ) (first : ℤ) (row own : ℕ) (other : ℤ) : Type 0 where
   pub own_kept : pos own ≡ running_start (pos 0) width row
-  pub other_kept : other ≡ running_start first otherWidth row
+  pub other_kept : other ≡ running_start first other_width row
 
-module _ {width otherWidth : ℕ} {first : ℤ} where
-  pub kept_start : Kept width otherWidth first 0 0 first
+module _ {width other_width : ℕ} {first : ℤ} where
+  pub kept_start : Kept width other_width first 0 0 first
   unfolding running_start
   kept_start = record { own_kept = refl; other_kept = refl }
 
-  pub kept_more : {row own : ℕ} {other next : ℤ} → Kept width otherWidth first row own other → next ≡ other +ℤ pos otherWidth
-      → Kept width otherWidth first (row + 1) (own + width) next
+  pub kept_more : {row own : ℕ} {other next : ℤ} → Kept width other_width first row own other → next ≡ other +ℤ pos other_width
+      → Kept width other_width first (row + 1) (own + width) next
   unfolding running_start
   kept_more {row} k e =
       rw (add-one row)
-      (record { own_kept = ap (λ (z : ℤ). z +ℤ pos width) k.own_kept; other_kept = e ∙ ap (λ (z : ℤ). z +ℤ pos otherWidth) k.other_kept })
+      (record { own_kept = ap (λ (z : ℤ). z +ℤ pos width) k.own_kept; other_kept = e ∙ ap (λ (z : ℤ). z +ℤ pos other_width) k.other_kept })
 
 -- ---- what fits 64 bits: an offset has 32, and rows and widths are at most 4096
 

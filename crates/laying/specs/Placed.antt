@@ -32,8 +32,8 @@ pub record At (corner : Corner) (column row x y : ℤ) : Type 0 where
 pub record MeetOnTheSheet : Type 0 where
   pub only : (own other : Corner) (column row : ℕ) (x y : ℤ) → At own (pos column) (pos row) x y
       → At other (pos column +ℤ (offset_between own other).x) (pos row +ℤ (offset_between own other).y) x y
-  pub always : (own other : Corner) (column row : ℕ) (otherColumn otherRow x y : ℤ) → At own (pos column) (pos row) x y → At other otherColumn otherRow x y
-      → (otherColumn ≡ pos column +ℤ (offset_between own other).x) × (otherRow ≡ pos row +ℤ (offset_between own other).y)
+  pub always : (own other : Corner) (column row : ℕ) (other_column other_row x y : ℤ) → At own (pos column) (pos row) x y → At other other_column other_row x y
+      → (other_column ≡ pos column +ℤ (offset_between own other).x) × (other_row ≡ pos row +ℤ (offset_between own other).y)
 
 -- no difference of corners within the limit overflows: whatever is at most 2,147,483,647 from 0 is a signed 32-bit
 -- number

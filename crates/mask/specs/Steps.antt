@@ -20,8 +20,8 @@ outcome_of check.Pass = Done
 outcome_of (check.Refused f) = Refused f
 
 -- a check that tells the answer of a laying-on, whatever its offset, from the sizes and the lengths of what is lent
-pub record LayChecked (size : Size) (lent : Lent) (other_size : Size) (otherLength : ℕ) (c : Check) : Type 0 where
-  pub tells : (offset : Offset) → lay_answer (laying size other_size offset) lent otherLength ≡ outcome_of c
+pub record LayChecked (size : Size) (lent : Lent) (other_size : Size) (other_length : ℕ) (c : Check) : Type 0 where
+  pub tells : (offset : Offset) → lay_answer (laying size other_size offset) lent other_length ≡ outcome_of c
 
 -- what a laying-on by corners is refused for before the laying-on by the offset between them: 3, then 16
 abbrev pub corners_check : Placed → Check

@@ -27,8 +27,8 @@ counters_drawn d mask ink counters = counters_after_drawing (draw_answer d (lent
 -- ---- laying one mask on another
 
 abbrev pub laying_lent : ℕ → ℕ → ℕ → ℕ → ℤ → ℤ → Laying
-laying_lent width height otherWidth otherHeight x y =
-    laying (record { width = width; height = height }) (record { width = otherWidth; height = otherHeight }) (record { x = x; y = y })
+laying_lent width height other_width other_height x y =
+    laying (record { width = width; height = height }) (record { width = other_width; height = other_height }) (record { x = x; y = y })
 
 -- what a laying-on leaves of the mask, and of its ink
 abbrev pub mask_laid : Laying → List ℕ → List ℕ → List ℕ → List ℕ
@@ -40,9 +40,9 @@ ink_laid l mask ink other = ink_after_call (lay_answer l (lent mask ink) (length
 -- ---- by corners
 
 abbrev pub placed_lent : ℕ → ℕ → ℤ → ℤ → ℕ → ℕ → ℤ → ℤ → Placed
-placed_lent width height x y otherWidth otherHeight otherX otherY =
+placed_lent width height x y other_width other_height other_x other_y =
     placed (record { size = record { width = width; height = height }; corner = record { x = x; y = y } })
-    (record { size = record { width = otherWidth; height = otherHeight }; corner = record { x = otherX; y = otherY } })
+    (record { size = record { width = other_width; height = other_height }; corner = record { x = other_x; y = other_y } })
 
 abbrev pub mask_laid_placed : Placed → List ℕ → List ℕ → List ℕ → List ℕ
 mask_laid_placed p mask ink other = mask_after_laying (lay_placed_answer p (lent mask ink) (length other)) (by_offset p) mask other

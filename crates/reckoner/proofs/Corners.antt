@@ -1,7 +1,6 @@
 -- Cards are meant, and corners decide nothing where nothing is laid by them (specs/Corners.antt). Assumes nothing.
 use mathlib.Core.Path.{◌≡◌, refl, ap, ◌∙◌}
 use mathlib.Core.List.{List, [], ◌∷◌}
-use Prim.Native.Nat.{ℕ}
 use lib.IntN.{ℤ, pos, negsuc, ◌+ℤ◌}
 use Rattle.cells.specs.declared.Corner.{Corner}
 use Rattle.laying.specs.Laying.{Laying}
@@ -15,7 +14,7 @@ use Rattle.mask.proofs.PlacedCauses.{can_lay_placed}
 use Rattle.reckoner.specs.Reckoner.{Cell, Held, Place, running, next, Two, of, put, record_of, at_first, drawn_held, alone, meets, laid_held, laid_placed}
 use Rattle.reckoner.specs.Reckoner.{Call, draw, lay, lay_placed, answer, answers, step, reckoned, Given, Meant}
 use Rattle.reckoner.specs.Claim.{Buffers, Scratches, buffers_after, buffers_after_all}
-use Rattle.reckoner.specs.Corners.{DrawingAt, record_given, others_laid, card, CanPlace, AllPlaced, AllDone, CardsAreMeant}
+use Rattle.reckoner.specs.Corners.{DrawingAt, record_given, others_laid, CanPlace, AllPlaced, AllDone, CardsAreMeant}
 use Rattle.reckoner.specs.Corners.{SameButCorners, no_more, drawn, laid, scratch_too, SameMask, SameMasks, CornersDecideNothing}
 
 -- ---- cards are meant

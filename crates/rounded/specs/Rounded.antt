@@ -30,17 +30,17 @@ abbrev pub box_of : Around → Radii → RoundedBox
 box_of a r = record { frame = translation_of a.cx a.cy; ex = a.ex; ey = a.ey; rx = r.x; ry = r.y }
 
 -- SIDES: (0, 1), (-1, 0), (0, -1), (1, 0)
-unfoldable pub side_xOf : ℕ → Float
-side_xOf side = cond (eqb side 1) f_minus_1 (cond (eqb side 3) f1 f0)
+unfoldable pub side_x_of : ℕ → Float
+side_x_of side = cond (eqb side 1) f_minus_1 (cond (eqb side 3) f1 f0)
 
-unfoldable pub side_yOf : ℕ → Float
-side_yOf side = cond (eqb side 0) f1 (cond (eqb side 2) f_minus_1 f0)
+unfoldable pub side_y_of : ℕ → Float
+side_y_of side = cond (eqb side 0) f1 (cond (eqb side 2) f_minus_1 f0)
 
 -- `rounded`: 'The rounded box runs on past the square side by twice its radius there'
 unfoldable pub past_of : ℕ → Radii → Around → RoundedBox
 past_of side r a =
-    let sx = side_xOf side in
-    let sy = side_yOf side in
+    let sx = side_x_of side in
+    let sy = side_y_of side in
     let run-x = f2 ⊗ r.x ⊗ abs_of sx in
     let run-y = f2 ⊗ r.y ⊗ abs_of sy in
     record {

@@ -8,7 +8,7 @@ ghost use Rattle.outline.specs.Kept.{points_in, segments_in};
 ghost use Rattle.samples.specs.Samples.{most_samples};
 ghost use Rattle.rounded.specs.OnBox.{quadrant_of, beside_of, no_radii, radii_at_of, at_corner_of, corner_met_of, side_met_of, met_of, met_step_of, met_all_of};
 ghost use Rattle.rounded.specs.Turning.{angle_of, step_of, turned_by, turned_of, once_of};
-ghost use Rattle.rounded.specs.Rounded.{box_of, side_xOf, side_yOf, past_of, boxed_of, fitted_of, rounded_by, rounded_of};
+ghost use Rattle.rounded.specs.Rounded.{box_of, side_x_of, side_y_of, past_of, boxed_of, fitted_of, rounded_by, rounded_of};
 ghost use Rattle.rounded.specs.Kept.{other_of};
 
 use corner_radii::{Around, CornerMix, FIT_TOLERANCE, Radii};
@@ -273,7 +273,7 @@ fn box_of(a: Around, r: Radii) -> RoundedBox
 
 // The direction that a side faces.
 fn side_x(side: usize) -> f32
-    ensures { result ≡ side_xOf side }
+    ensures { result ≡ side_x_of side }
 {
     if side == 1 {
         return -1.0;
@@ -285,7 +285,7 @@ fn side_x(side: usize) -> f32
 }
 
 fn side_y(side: usize) -> f32
-    ensures { result ≡ side_yOf side }
+    ensures { result ≡ side_y_of side }
 {
     if side == 0 {
         return 1.0;

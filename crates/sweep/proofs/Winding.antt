@@ -86,7 +86,7 @@ unique f (fin t (suc m) e) (fin u (suc n) g) s a c C p q v w =
     let r = same_exp (suc m) (suc n) e g (is_odd f t m e p) (is_odd f u n g q) (cross (suc m * up e) (suc n * up g) c (down e) (down g) a C v.1 w.1) in
     λ i. fin ((v.0 ∙ sym w.0) i) (r.0 i) (r.1 i)
 
-itself : (f : Format) (s : Bool) (m : ℕ) (e : ℤ) → T (fits f (fin s m e)) → round f s (m * up e) (down e) ≡ fin s m e
+pub itself : (f : Format) (s : Bool) (m : ℕ) (e : ℤ) → T (fits f (fin s m e)) → round f s (m * up e) (down e) ≡ fin s m e
 itself f s m e t = unique f (round f s (m * up e) (down e)) (fin s m e) s (m * up e) (down e) (down_pos e) (round-fits f s (m * up e) (down e)) t (own_rounding f s s m e t) (refl, refl)
 
 -- ---- 0.0 more

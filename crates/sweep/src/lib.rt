@@ -3,20 +3,43 @@
 #![tactic(auto)]
 
 ghost use Rattle.std.specs.Prelude.{◌≡◌, map, ◌+◌, ◌-◌, ◌≤◌, ◌<◌, length, replicate, set};
-ghost use Rattle.float.specs.Ops.{f0};
+ghost use Rattle.std.specs.Float.{binary32};
+ghost use Rattle.std.specs.Float.Ieee.{rem};
+ghost use Rattle.float.specs.Ops.{f0, f2};
+ghost use Rattle.float.specs.Simple.{abs_of};
 ghost use Rattle.sweep.specs.Bytes.{share_of, covered_of, bytes_of, add_bytes};
 ghost use Rattle.accumulation.specs.Marks.{Ready};
 ghost use Rattle.sweep.specs.Sweeping.{plus_of, filled_of, Blank, Reached, Moved, MarkWord, WordDone, WordsDone, SameOutside};
+
+// A winding's size modulo 2, as `%` gives it, by whole numbers of an f32's smallest values, of which
+// 2.0 is 2 ^ 150: what is left of the digits, times 2.0 ^ (exponent - 149), is exact.
+fn modulo_two(winding: f32) -> f32
+    ensures { result ≡ rem binary32 (abs_of winding) f2 }
+{
+    if !float::is_finite(winding) {
+        return 0.0 / 0.0;
+    }
+    let parts = float::unpack32(winding);
+    if parts.exponent >= 150 {
+        return 0.0;
+    }
+    if parts.exponent < 126 {
+        return float::abs(winding);
+    }
+    let unit: u64 = 1 << (150 - parts.exponent);
+    let left = (parts.digits % unit) as usize;
+    whole::from_whole(left) * float::pack32(false, 0x80_0000, parts.exponent - 23)
+}
 
 // The share of a cell at a winding, by the rule.
 fn share(even_odd: bool, winding: f32) -> f32
     ensures { result ≡ share_of even_odd winding }
 {
-    let size = float::abs(winding);
     if even_odd {
-        let folded = size % 2.0;
+        let folded = modulo_two(winding);
         if folded > 1.0 { 2.0 - folded } else { folded }
     } else {
+        let size = float::abs(winding);
         float::min(size, 1.0)
     }
 }

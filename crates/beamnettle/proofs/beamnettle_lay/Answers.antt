@@ -1,7 +1,6 @@
 -- `beamnettle::beamnettle_lay` meets its contract: the offset's numbers fit. Assumes nothing.
 use mir.Syntax.{w32}
 use mir.ValLaws.{to_z-of_z}
-use borrow.Author.Rules.{rules}
 use Rattle.beamnettle.proofs.beamnettle_lay.Goals as goal
 
 pub returns : goal.returns

@@ -1,7 +1,6 @@
 -- `beamnettle::beamnettle_lay_placed` meets its contract: the corners' numbers fit. Assumes nothing.
 use mir.Syntax.{w32}
 use mir.ValLaws.{to_z-of_z}
-use borrow.Author.Rules.{rules}
 use Rattle.beamnettle.proofs.beamnettle_lay_placed.Goals as goal
 
 pub returns : goal.returns

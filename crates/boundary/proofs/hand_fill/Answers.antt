@@ -1,5 +1,4 @@
 -- `boundary::hand_fill` meets its contract, case by case of the answer. Assumes nothing.
-use borrow.Author.Rules.{rules}
 use Rattle.boundary.proofs.hand_fill.Goals as goal
 
 pub returns-in-Fill : goal.returns-in-Fill

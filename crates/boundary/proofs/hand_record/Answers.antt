@@ -5,11 +5,9 @@ use Prim.Native.Nat.{◌≤◌}
 use native.Mathlib.Omega.{arith}
 use lib.ListN.{length, set, drop}
 use mir.Syntax.{w32}
-use mir.Val.{to_z, of_z}
 use mir.Val.{SFits}
 use mir.ValLaws.{to_z-of_z}
 use borrow.Author.Rules.{rules}
-use Rattle.cells.specs.declared.MaskRecord.{MaskRecord}
 use Rattle.boundary.proofs.hand_record.Goals as goal
 
 -- two numbers, written to the front

@@ -1,5 +1,4 @@
 -- `boundary::inside_number` meets its contract. Assumes nothing.
-use borrow.Author.Rules.{rules}
 use Rattle.boundary.proofs.inside_number.Goals as goal
 
 pub returns-in-Outside : goal.returns-in-Outside

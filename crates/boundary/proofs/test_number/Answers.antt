@@ -1,5 +1,4 @@
 -- `boundary::test_number` meets its contract, case by case of the answer. Assumes nothing.
-use borrow.Author.Rules.{rules}
 use mathlib.Core.Path.{sym, ap, ◌∙◌}
 use mathlib.Core.Bool.{Bool, cond}
 use Rattle.boundary.specs.Answers.{test_number}

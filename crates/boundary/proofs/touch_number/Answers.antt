@@ -1,5 +1,4 @@
 -- `boundary::touch_number` meets its contract. Assumes nothing.
-use borrow.Author.Rules.{rules}
 use Rattle.boundary.proofs.touch_number.Goals as goal
 
 pub returns-in-Frame : goal.returns-in-Frame

@@ -1,7 +1,6 @@
 -- `boundary::write_number` meets its contract. Assumes nothing.
 use Prim.Native.Nat.{◌+◌, ◌≤◌}
 use native.Mathlib.Omega.{arith}
-use borrow.Author.Rules.{rules}
 use Rattle.boundary.proofs.write_number.Goals as goal
 
 pub overflow_cast-result : goal.overflow_cast-result

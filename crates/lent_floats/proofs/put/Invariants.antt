@@ -1,16 +1,9 @@
 -- `lent_floats::put` meets its contract: the first i floats are over the front of what was lent (`lib.Seq`'s `paste`, from
 -- 0). Assumes nothing.
-use mathlib.Core.Path.{◌≡◌, refl, sym, ap, ◌∙◌}
-use mathlib.Core.List.{List, ◌++◌}
-use Prim.Native.Nat.{ℕ, ◌+◌, ◌-◌, ◌≤◌, ◌<◌}
-use native.Mathlib.Nat.{zero-add}
-use native.Mathlib.Numerals.{add-one}
-use native.Mathlib.Omega.{arith}
-use lib.ListN.{length, get_or, set, drop, length-set}
-use lib.Seq.{paste, paste-zero, paste-suc, take-length}
-use lib.Ieee.{Float, nan}
-use borrow.Author.Rules.{rules}
-use Rattle.lent_floats.specs.Lent.{over}
+use mathlib.Core.Path.{◌≡◌}
+use Prim.Native.Nat.{◌-◌, ◌≤◌}
+use lib.ListN.{length}
+use lib.Seq.{paste}
 use Rattle.lent_floats.proofs.put.Given as goal
 
 abbrev pub invariant-loop-i : goal.invariant-loop-i

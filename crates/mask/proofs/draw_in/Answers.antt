@@ -1,23 +1,22 @@
 -- `mask::draw_in` meets its contract. Assumes nothing.
-use mathlib.Core.Path.{◌≡◌, refl, sym, ap, ◌∙◌}
+use mathlib.Core.Path.{refl, sym, ap, ◌∙◌}
 use mathlib.Core.List.{List, ◌++◌}
 use Prim.Native.Nat.{ℕ, ◌≤◌}
 use native.Mathlib.Omega.{arith}
-use lib.ListN.{length, take, drop}
+use lib.ListN.{length, drop}
 use lib.Seq.{length-take-le}
 use Rattle.cells.specs.Cells.{cells_of}
 use Rattle.cells.proofs.Sizes.{allowed_small, cells_fit, cells_long}
-use Rattle.ink.specs.Lent.{Lent, lent, ink_needed}
-use Rattle.word_list.specs.Words.{Group, groups_of}
+use Rattle.ink.specs.Lent.{lent, ink_needed}
+use Rattle.word_list.specs.Words.{groups_of}
 use Rattle.coverage.specs.Scratch.{floats_needed, counters_needed}
 use Rattle.coverage.proofs.Places.{drawing_length}
-use Rattle.mask.specs.Calls.{Drawing, drawing}
+use Rattle.mask.specs.Calls.{drawing}
 use Rattle.mask.specs.Laws.{is_done, is_refused}
 use Rattle.fault.specs.declared.Fault.TheVariants.{BufferTooShort}
 use Rattle.mask.proofs.Causes.{can_draw, cannot_draw}
 use Rattle.mask.proofs.Scratch.{floats_short, counters_short, scratch_enough, room_there}
 use Rattle.ink.proofs.Written.{written_ink}
-use borrow.Author.Rules.{rules}
 use Rattle.mask.proofs.draw_in.Goals as goal
 
 pub returns-then-floats-floats_needed : goal.returns-then-floats-floats_needed

@@ -13,11 +13,9 @@ use Rattle.mask.specs.Calls.{outcome_number, lay_answer}
 use Rattle.mask.specs.Laws.{CanLay, LayNumber}
 use Rattle.mask.specs.Steps.{outcome_of}
 use Rattle.mask.specs.declared.Outcome.{Outcome}
-use Rattle.mask.specs.declared.Outcome.TheVariants.{Done}
 use Rattle.mask.proofs.LayCauses.{laid_exactly_when}
 use Rattle.mask.proofs.Numbers.{numbers_exactly_when}
 use Rattle.ink.proofs.Written.{still_enough}
-use borrow.Author.Rules.{rules}
 use Rattle.mask.proofs.intersect.Goals as goal
 
 -- the number of an answer

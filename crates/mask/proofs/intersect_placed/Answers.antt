@@ -1,9 +1,7 @@
 -- `mask::intersect_placed` meets its contract: a laying-on by the offset between the corners. Assumes nothing.
 use mathlib.Core.Path.{◌≡◌, refl, sym, ◌∙◌, subst}
-use mathlib.Core.List.{List}
 use Prim.Native.Nat.{ℕ}
 use lib.ListN.{length}
-use Rattle.cells.specs.Corner.{CornerAllowed}
 use Rattle.ink.specs.Lent.{Lent, lent}
 use Rattle.laying.specs.Placed.{Placed, placed}
 use Rattle.mask.specs.Calls.{outcome_number, lay_placed_answer}
@@ -11,7 +9,6 @@ use Rattle.mask.specs.Laws.{LayPlacedNumber}
 use Rattle.mask.specs.declared.Outcome.{Outcome}
 use Rattle.mask.proofs.PlacedCauses.{check_refuses, check_passes, within}
 use Rattle.mask.proofs.Numbers.{numbers_exactly_when}
-use borrow.Author.Rules.{rules}
 use Rattle.mask.proofs.intersect_placed.Goals as goal
 
 -- the number of an answer

@@ -1,20 +1,17 @@
 -- `mask::rasterize_into` meets its contract. Assumes nothing.
-use mathlib.Core.Path.{◌≡◌, refl, sym, ◌∙◌}
-use mathlib.Core.Bool.{false}
+use mathlib.Core.Path.{refl, sym, ◌∙◌}
 use lib.ListN.{length}
 use Rattle.fault.specs.declared.Fault.TheVariants.{MaskTooLarge, BufferTooShort}
 use Rattle.word_list.specs.Words.{points_in, read_words}
 use Rattle.words.proofs.Steps.{scan_fault}
 use Rattle.list_fault.proofs.ListFault.{list_fault as list_fault_law}
-use Rattle.cells.specs.Cells.{too_large, SizeAllowed}
 use Rattle.cells.proofs.Sizes.{size_allowed, size_large}
-use Rattle.ink.specs.Lent.{Lent, lent, LentEnough}
+use Rattle.ink.specs.Lent.{lent}
 use Rattle.ink.proofs.Lent.{lent_enough, lent_short_law as short_told}
-use Rattle.mask.specs.Calls.{Drawing, drawing}
+use Rattle.mask.specs.Calls.{drawing}
 use Rattle.mask.specs.Laws.{too_large_law, lent_short_law, list_fault, is_refused}
 use Rattle.mask.proofs.Causes.{cannot_draw}
 use Rattle.mask.proofs.Scratch.{list_counted}
-use borrow.Author.Rules.{rules}
 use Rattle.mask.proofs.rasterize_into.Goals as goal
 
 pub returns-then-is_too_large : goal.returns-then-is_too_large

@@ -7,7 +7,6 @@ use Prim.Native.Nat.{ℕ, ◌<◌}
 use lib.IntN.{ℤ}
 use lib.ListN.{length}
 use borrow.Author.Tests.{le-ltb}
-use borrow.Author.Rules.{rules}
 use Rattle.ink.specs.Lent.{lent}
 use Rattle.pgm.specs.declared.ReadAnswer.{ReadAnswer}
 use Rattle.pgm.specs.declared.ReadAnswer.TheVariants as read
@@ -40,10 +39,10 @@ returns-then-size-lt-SIZE c =
     let args = c.args in
     let a = read_call args.file.now (lent args.mask.now args.ink.now) in
     let short : (length args.size.now < 2) ⊎ (length args.corner.now < 2) =
-        elim c.then-size-lt-SIZE.branch [
-          then-size-lt-SIZE-via-then-size-lt-SIZE w ↦ inl w.if-size-lt-SIZE.true
-        | then-size-lt-SIZE-via-else-size-lt-SIZE+then-corner-lt-CORNER w ↦ inr w.if-corner-lt-CORNER.true
-        ] in
+    elim c.then-size-lt-SIZE.branch [
+      | then-size-lt-SIZE-via-then-size-lt-SIZE w ↦ inl w.if-size-lt-SIZE.true
+      | then-size-lt-SIZE-via-else-size-lt-SIZE+then-corner-lt-CORNER w ↦ inr w.if-corner-lt-CORNER.true
+    ] in
     rw (short_true (length args.size.now) (length args.corner.now) short)
     (record {
       number = c.refuse.ensures.value;

@@ -2,7 +2,6 @@
 use mathlib.Core.Path.{sym, ap, ◌∙◌}
 use mathlib.Core.List.{List, ◌++◌}
 use Prim.Native.Nat.{ℕ}
-use borrow.Author.Rules.{rules}
 use Rattle.ink.specs.Lent.{lent}
 use Rattle.boundary.specs.Answers.{read_number}
 use Rattle.pgm_exports.proofs.Unlent.{unlent, not_read}

@@ -5,11 +5,11 @@ use Rattle.sweep.proofs.share.Goals as goal
 
 pub returns-then-folded : goal.returns-then-folded
 unfolding share_of
-returns-then-folded c = simp (c.if-even_odd.true, sym c.abs-size.ensures, c.if-folded.true)
+returns-then-folded c = simp (c.if-even_odd.true, sym c.modulo_two-folded.ensures, c.if-folded.true)
 
 pub returns-else-folded : goal.returns-else-folded
 unfolding share_of
-returns-else-folded c = simp (c.if-even_odd.true, sym c.abs-size.ensures, c.if-folded.false)
+returns-else-folded c = simp (c.if-even_odd.true, sym c.modulo_two-folded.ensures, c.if-folded.false)
 
 pub returns-else-even_odd : goal.returns-else-even_odd
 unfolding share_of
