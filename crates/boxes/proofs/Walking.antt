@@ -6,8 +6,8 @@ use mathlib.Core.List.{List, [], ◌∷◌}
 use mathlib.Core.Logic.{◌⊎◌, inl, inr, ⊎_elim}
 use Prim.Native.Nat.{ℕ, suc, ◌+◌, ◌<◌, ◌≤◌}
 use native.Mathlib.Numerals.{add-one}
-use lib.Dec.{T as Holds, ltb, ltb→lt, nltb→le}
-use mir.Facts.{and_yes, and_no}
+use lib.Dec.{T as Holds, ltb, nltb→le}
+use mir.Facts.{and_no}
 use lib.ListN.{length, get_or, drop}
 use lib.Seq.{drop-cons}
 use Rattle.fault.specs.declared.Check.{Check}
@@ -20,6 +20,7 @@ use Rattle.boxes.specs.declared.Found.{Found}
 use Rattle.boxes.specs.declared.Found.TheVariants.{At, Nowhere, Refused}
 use Rattle.boxes.specs.Checks.{count_check_of, boxes_check_of}
 use Rattle.boxes.specs.First.{asks_of, first_from, first_place_of}
+use Rattle.boxes.proofs.Going.{going_yes}
 use Rattle.boxes.specs.Walk.{start_of, refusal_of, passes, goes_on, step_by, step_of}
 
 -- what comes of r, found before place i, where `rest` are the boxes from there on
@@ -80,10 +81,7 @@ pub ends : {bs : List RoundedBox} {q : Ask} {i : ℕ} {rest : List RoundedBox} {
     → SoFar bs q i rest r → Holds (not (passes (refusal_of r))) ⊎ (rest ≡ []) → r ≡ first_place_of bs q
 ends {bs} {q} {i} {rest} {r} h g = sym (h.result ∙ done r i rest q g)
 
--- ---- the loop's test: the walk goes on, or it is over
-pub going_yes : (r : Found) (i n : ℕ) → Holds (goes_on r i n) → Holds (passes (refusal_of r)) × (i < n)
-going_yes r i n h = let both = and_yes (passes (refusal_of r)) (ltb i n) h in (both.0, ltb→lt i n both.1)
-
+-- ---- the loop's test: the walk is over, or it goes on (proofs/Going.antt)
 pub going_no : (r : Found) (i n : ℕ) → Holds (not (goes_on r i n)) → Holds (not (passes (refusal_of r))) ⊎ (n ≤ i)
 going_no r i n h = ⊎_elim inl (λ past. inr (nltb→le _ _ past)) (and_no (passes (refusal_of r)) (ltb i n) h)
 

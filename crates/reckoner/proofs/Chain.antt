@@ -104,7 +104,7 @@ module _ (lengths : Two Lent) where
     where
       go : (c : Call) (o : Outcome) → answer lengths c ≡ o → Given o c held → BothHeld (step o c held) (after o c b) (after o c d)
       go (draw p corner e) (Refused f) q g = stay_held p i
-      go (draw p corner e) Done q g = put_held p i (draw_held e corner (of p b) (of p d) (ap (draw_answer e) (h p) ∙ q) (ap (draw_answer e) (j p) ∙ q))
+      go (draw p corner e) Done q g = put_held p i (draw_held e _ (of p b) (of p d) (ap (draw_answer e) (h p) ∙ q) (ap (draw_answer e) (j p) ∙ q))
       go (lay l) (Refused f) q g = stay_held running i
       go (lay l) Done q g = lay_both l held b d g.0 g.1 i
       go (lay_placed q) (Refused f) e g = stay_held running i
