@@ -1,4 +1,4 @@
--- `roots::align` meets its contract, by the laws of proofs/Rooting.antt. Assumes nothing.
+-- `nearest_roots::align` meets its contract, by the laws of proofs/Rooting.antt. Assumes nothing.
 use Rattle.nearest_roots.proofs.Rooting.{zeros_some, aligned}
 use native.Mathlib.Omega.{arith}
 use Rattle.nearest_roots.proofs.align.Goals as goal

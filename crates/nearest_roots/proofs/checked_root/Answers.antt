@@ -1,4 +1,4 @@
--- `roots::checked_root` meets its contract: a guess in range, and the two tests. Assumes nothing.
+-- `nearest_roots::checked_root` meets its contract: a guess in range, and the two tests. Assumes nothing.
 use lib.Ieee.{binary32, of_bits}
 use mathlib.Core.Logic.{inl, inr}
 use mathlib.Core.Path.{◌≡◌, refl}

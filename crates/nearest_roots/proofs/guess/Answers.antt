@@ -1,4 +1,4 @@
--- `roots::guess` meets its contract: each float whose bits are asked for, or that is made of bits, is no NaN, and the
+-- `nearest_roots::guess` meets its contract: each float whose bits are asked for, or that is made of bits, is no NaN, and the
 -- pattern is in range. Assumes nothing.
 use lib.Ieee.{binary64}
 use mathlib.Core.Logic.{inl, inr}

@@ -1,4 +1,4 @@
--- `roots::hypot_by_digits` meets its contract: the parts of x and y, and the root of their squares. Assumes nothing.
+-- `nearest_roots::hypot_by_digits` meets its contract: the parts of x and y, and the root of their squares. Assumes nothing.
 use Rattle.nearest_roots.proofs.Guessing.{digits_of, hypot_of_lem}
 use Rattle.nearest_roots.proofs.hypot_by_digits.Goals as goal
 

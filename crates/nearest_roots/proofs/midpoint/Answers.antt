@@ -1,4 +1,4 @@
--- `roots::midpoint` meets its contract. Assumes nothing.
+-- `nearest_roots::midpoint` meets its contract. Assumes nothing.
 use lib.Ieee.{binary64}
 use native.Mathlib.Omega.{arith}
 use Rattle.nearest_roots.proofs.Guessing.{bits_no_nan}

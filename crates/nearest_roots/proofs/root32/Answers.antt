@@ -1,4 +1,4 @@
--- `roots::root32` meets its contract: a guess that was held is the root, and else the digits are. Assumes nothing.
+-- `nearest_roots::root32` meets its contract: a guess that was held is the root, and else the digits are. Assumes nothing.
 use lib.Ieee.{of_bits}
 use Rattle.float.proofs.Tests.{holds}
 use Rattle.nearest_roots.proofs.Guessing.{was_held, root_held}

@@ -1,4 +1,4 @@
--- `roots::root64` meets its contract, by the laws of proofs/Rooting.antt over the width. Assumes nothing.
+-- `nearest_roots::root64` meets its contract, by the laws of proofs/Rooting.antt over the width. Assumes nothing.
 use Rattle.root_digits.proofs.Halves.{rounded_le, rounded_ge}
 use Rattle.nearest_roots.proofs.Rooting.{digits_pos, root_of}
 use lib.Ieee.Positive.{positive-finite}

@@ -1,4 +1,4 @@
--- `roots::root_parts` meets its contract, by the law of proofs/Rooting.antt. Assumes nothing.
+-- `nearest_roots::root_parts` meets its contract, by the law of proofs/Rooting.antt. Assumes nothing.
 use Rattle.nearest_roots.proofs.Rooting.{root_parts}
 use mathlib.Core.Logic.{◌⊎◌, inl, inr}
 use mathlib.Core.Path.{◌≡◌}

@@ -1,4 +1,4 @@
--- `roots::sqrt64` meets its contract, by the laws of proofs/Rooting.antt. Assumes nothing.
+-- `nearest_roots::sqrt64` meets its contract, by the laws of proofs/Rooting.antt. Assumes nothing.
 use Rattle.nearest_roots.proofs.Rooting.{at_top, above, at_zero, no_root}
 use lib.Ieee.{binary64, of_bits, div}
 use Rattle.nearest_roots.proofs.sqrt64.Goals as goal
