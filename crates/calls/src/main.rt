@@ -5,7 +5,7 @@ use buffers::{Lengths, MOST_BYTES, MOST_INK};
 use fields::{MOST_LINE, Problem};
 use input::{CHUNK, Input, Reading};
 use line_calls::Held;
-use std::io::{self, BufWriter, Read, Write};
+use std::io::{self, Read, Write};
 
 // The numbers of an ink buffer at first: enough for every mask.
 const FIRST_INK: usize = 8192;
@@ -105,7 +105,7 @@ fn answer_all(
 
 fn main(rt: HostRuntime) -> io::Result<()> {
     let mut reader = rt.reader();
-    let mut out = BufWriter::with_capacity(rt.alloc(), CHUNK, io::writer(&rt))?;
+    let mut out = io::writer(&rt);
     let mut chunk = [0u8; CHUNK];
     let mut line = [0u8; MOST_LINE];
     let mut run = [0u8; MOST_BYTES];
