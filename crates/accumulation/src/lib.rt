@@ -4,7 +4,7 @@
 // kiosk's.
 #![tactic(auto)]
 
-ghost use Rattle.std.specs.Prelude.{◌≡◌, map, ◌+◌, ◌-◌, ◌*◌, ◌/◌, ◌%◌, ◌≤◌, ◌<◌, min, length, Float};
+ghost use Rattle.std.specs.Prelude.{◌≡◌, map, ◌+◌, ◌-◌, ◌*◌, ◌/◌, ◌%◌, ◌≤◌, ◌<◌, length, Float};
 ghost use Rattle.float.specs.Ops.{◌⊕◌};
 ghost use Rattle.accumulation.specs.Area.{add_of, evenly_of, single_of, between_of, across_of};
 ghost use Rattle.accumulation.specs.Marks.{mark_words, Ready, Marked};
@@ -17,12 +17,6 @@ pub fn mark_words(width: usize) -> usize
     ensures { result ≡ mark_words width }
 {
     (width + 63) / 64 + 1
-}
-
-fn least(a: usize, b: usize) -> usize
-    ensures { result ≡ min a b }
-{
-    if a < b { a } else { b }
 }
 
 // Marks n cells from `cell` on, whose bits stand in one word.
@@ -44,7 +38,7 @@ fn mark_run(touched: &mut [u64], from: usize, to: usize)
 {
     let mut at = from;
     while at < to {
-        let end = least((at / 64 + 1) * 64, to);
+        let end = to.min((at / 64 + 1) * 64);
         mark(touched, at, end - at);
         at = end;
     }
@@ -68,10 +62,8 @@ pub fn add(cells: &mut [f32], touched: &mut [u64], cell: usize, area: f32)
 fn raise(cells: &mut [f32], area: f32)
     ensures { cells.new ≡ map (λ (x : Float). x ⊕ area) cells.old }
 {
-    let mut i = 0;
-    while i < cells.len() {
-        cells[i] = cells[i] + area;
-        i += 1;
+    for cell in cells.iter_mut() {
+        *cell = *cell + area;
     }
 }
 
@@ -81,7 +73,7 @@ fn evenly(cells: &mut [f32], touched: &mut [u64], from: usize, to: usize, area: 
     ensures cells_after { cells.new ≡ evenly_of (to - from) cells.old from area }
     ensures ready { Ready cells.new touched.new }
 {
-    let end = least(to, cells.len());
+    let end = to.min(cells.len());
     if from < end {
         if area != 0.0 {
             raise(&mut cells[from..end], area);

@@ -71,12 +71,10 @@ pub fn pieces(
 {
     let width = l.width;
     let mut kept = 0;
-    let mut i = 0;
-    while i < n {
+    for i in 0..n {
         let e = edge::load(floats, l.active + 5 * i);
         piece(&mut floats[..width], touched, e, top, bottom, height);
         kept = keep(floats, l, kept, e, bottom);
-        i += 1;
     }
     kept
 }

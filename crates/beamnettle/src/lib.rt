@@ -6,7 +6,7 @@ ghost use Rattle.std.specs.Prelude.{◌≡◌, length};
 ghost use Rattle.ink.specs.Lent.{lent};
 ghost use Rattle.mask.specs.Calls.{outcome_number, draw_answer, lay_answer, lay_placed_answer};
 ghost use Rattle.touch.specs.Touch.{point_of, touch_call};
-ghost use Rattle.boundary.specs.Answers.{after, box_handed, coverage_handed, bounds_handed, distance_handed, test_number, touch_number, inside_number};
+ghost use Rattle.boundary.specs.Answers.{after, whole_box_handed, box_handed, coverage_handed, bounds_handed, distance_handed, test_number, touch_number, inside_number};
 ghost use Rattle.boundary.specs.Answers.{both_box_handed, both_coverage_handed, fill_handed, outline_handed, cut_handed, write_number, read_number, size_after, corner_after};
 ghost use Rattle.mask_exports.specs.Calls.{drawing_lent, mask_drawn, ink_drawn, floats_drawn, counters_drawn};
 ghost use Rattle.mask_exports.specs.Calls.{laying_lent, mask_laid, ink_laid, placed_lent, mask_laid_placed, ink_laid_placed};
@@ -16,10 +16,9 @@ ghost use Rattle.box_exports.specs.Calls.{transformed_lent, intersection_lent, r
 ghost use Rattle.box_exports.specs.Calls.{bounds_lent, distance_lent, parallel_lent, contains_lent, inside_lent};
 ghost use Rattle.window_exports.specs.Calls.{with_scissor_lent, trimmed_scissor_lent, rect_fill_lent, upright_rect_lent, reach_lent, holds_lent};
 
+use fault::Fault;
 use lent_floats::BOX;
 use shape::RoundedBox;
-
-const TOO_SHORT: u32 = 4;
 
 // ---- masks: crate mask_exports has the calls
 
@@ -174,8 +173,8 @@ pub extern "C" fn beamnettle_fit_with_cut(verbs: &[u8], positions: &[f32], out: 
 
 #[unsafe(no_mangle)]
 pub extern "C" fn beamnettle_transformed(b: &[f32], frame: &[f32], out: &mut [f32]) -> u8
-    ensures value { result ≡ (box_handed (transformed_lent b.now frame.now out.old)).number }
-    ensures out_after { out.new ≡ after (box_handed (transformed_lent b.now frame.now out.old)) out.old }
+    ensures value { result ≡ (whole_box_handed (transformed_lent b.now frame.now out.old)).number }
+    ensures out_after { out.new ≡ after (whole_box_handed (transformed_lent b.now frame.now out.old)) out.old }
 {
     box_exports::transformed(b, frame, out)
 }
@@ -324,7 +323,7 @@ pub extern "C" fn beamnettle_inside(boxes: &[RoundedBox], safe: &[f32], fringe: 
     ensures { result ≡ inside_number (inside_lent boxes.now safe.now fringe) }
 {
     if safe.len() < BOX {
-        return TOO_SHORT;
+        return u32::from(Fault::BufferTooShort.number());
     }
     boundary::inside_number(inside::all_inside(boxes, boxes::box_at(safe, 0), fringe))
 }

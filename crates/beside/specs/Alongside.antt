@@ -1,6 +1,6 @@
 -- A box placed in another's frame, as shape.rs computes it. `⊕ ⊖ ⊗ ⊘` are binary32's operations, and each rounds once.
 -- Definitions only.
-use Rattle.std.specs.Prelude.{Bool, true, false, cond, ◌&&◌, Float}
+use Rattle.std.specs.Prelude.{Bool, true, false, cond, ◌&&◌, Float, Option, Some, None}
 use Rattle.std.specs.Float.{binary32}
 use Rattle.std.specs.Float.Ieee.{of_bits, lt, le}
 use Rattle.float.specs.Ops.{◌⊗◌, f0}
@@ -9,8 +9,6 @@ use Rattle.geometry.specs.declared.Transform2D.{Transform2D}
 use Rattle.geometry.specs.Frame.{quotient_of}
 use Rattle.shape.specs.declared.RoundedBox.{RoundedBox}
 use Rattle.beside.specs.declared.Placed.{Placed}
-use Rattle.beside.specs.declared.MaybePlaced.{MaybePlaced}
-use Rattle.beside.specs.declared.MaybePlaced.TheVariants as alongside
 
 -- `alongside`'s 1e-4
 abbrev pub aligned_share : Float
@@ -56,19 +54,19 @@ crossed_by t other =
       ry = abs_of t.b ⊗ other.rx;
     }
 
-abbrev pub alongside_by : Transform2D → RoundedBox → MaybePlaced
+abbrev pub alongside_by : Transform2D → RoundedBox → Option Placed
 alongside_by t other =
-    cond (straight_of t) (alongside.Placed (straight_by t other))
-    (cond (crossed_of t) (alongside.Placed (crossed_by t other)) alongside.NotParallel)
+    cond (straight_of t) (Some (straight_by t other))
+    (cond (crossed_of t) (Some (crossed_by t other)) None)
 
 -- RoundedBox::alongside
-unfoldable pub alongside_of : RoundedBox → RoundedBox → MaybePlaced
+unfoldable pub alongside_of : RoundedBox → RoundedBox → Option Placed
 alongside_of b other = alongside_by (quotient_of other.frame b.frame) other
 
 -- RoundedBox::parallel
-abbrev pub is_placed : MaybePlaced → Bool
-is_placed (alongside.Placed p) = true
-is_placed alongside.NotParallel = false
+abbrev pub is_placed : Option Placed → Bool
+is_placed (Some p) = true
+is_placed None = false
 
 abbrev pub parallel_of : RoundedBox → RoundedBox → Bool
 parallel_of b other = is_placed (alongside_of b other)

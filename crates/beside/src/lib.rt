@@ -9,9 +9,9 @@ ghost use Rattle.std.specs.Prelude.{◌≡◌};
 ghost use Rattle.beside.specs.Alongside.{scale_of, aligned_of, straight_of, crossed_of, straight_by, crossed_by, alongside_of, parallel_of};
 ghost use Rattle.beside.specs.Calls.{pair_check_of, pair_fringe_check_of, parallel_call};
 
-use fault::Check;
+use fault::{Check, Fault};
 use geometry::Transform2D;
-use shape::{RoundedBox, TestAnswer};
+use shape::RoundedBox;
 
 // A box in another's frame: its centre, and its half sides and radii along the axes.
 #[derive(Clone, Copy)]
@@ -22,13 +22,6 @@ pub struct Placed {
     pub hy: f32,
     pub rx: f32,
     pub ry: f32,
-}
-
-// The Rust's Option of `alongside`.
-#[derive(Clone, Copy)]
-pub enum MaybePlaced {
-    Placed(Placed),
-    NotParallel,
 }
 
 // ---- alongside
@@ -46,6 +39,7 @@ pub fn scale(t: Transform2D) -> f32
     )
 }
 
+#[tactic(auto, unfolding(crate::specs::Alongside::aligned_of))]
 fn aligned(along: f32, across: f32, scale: f32) -> bool
     ensures { result ≡ aligned_of along across scale }
 {
@@ -53,6 +47,7 @@ fn aligned(along: f32, across: f32, scale: f32) -> bool
 }
 
 // Whether each axis runs along its own, and whether each runs along the other.
+#[tactic(auto, unfolding(crate::specs::Alongside::straight_of))]
 fn straight(t: Transform2D) -> bool
     ensures { result ≡ straight_of t }
 {
@@ -60,6 +55,7 @@ fn straight(t: Transform2D) -> bool
     aligned(t.a, t.b, scale) && aligned(t.d, t.c, scale)
 }
 
+#[tactic(auto, unfolding(crate::specs::Alongside::crossed_of))]
 fn crossed(t: Transform2D) -> bool
     ensures { result ≡ crossed_of t }
 {
@@ -69,19 +65,20 @@ fn crossed(t: Transform2D) -> bool
 
 // `two` in the frame of `one` when the two have parallel sides: its centre, and its half sides and
 // radii along that frame's axes.
-pub fn alongside(one: RoundedBox, two: RoundedBox) -> MaybePlaced
+#[tactic(auto, unfolding(crate::specs::Alongside::alongside_of))]
+pub fn alongside(one: RoundedBox, two: RoundedBox) -> Option<Placed>
     ensures { result ≡ alongside_of one two }
 {
     let mine = one.frame;
     let theirs = two.frame;
     let t = theirs.div(mine);
     if straight(t) {
-        return MaybePlaced::Placed(Placed::straight(t, two));
+        return Some(Placed::straight(t, two));
     }
     if crossed(t) {
-        return MaybePlaced::Placed(Placed::crossed(t, two));
+        return Some(Placed::crossed(t, two));
     }
-    MaybePlaced::NotParallel
+    None
 }
 
 impl Placed {
@@ -89,6 +86,7 @@ impl Placed {
     pub const ALIGNED_SHARE: f32 = 1e-4;
 
     // A box by the frame t, as it stands, and with its sides changed over.
+    #[tactic(auto, unfolding(crate::specs::Alongside::straight_by))]
     fn straight(t: Transform2D, b: RoundedBox) -> Placed
         ensures { result ≡ straight_by t b }
     {
@@ -104,6 +102,7 @@ impl Placed {
         }
     }
 
+    #[tactic(auto, unfolding(crate::specs::Alongside::crossed_by))]
     fn crossed(t: Transform2D, other: RoundedBox) -> Placed
         ensures { result ≡ crossed_by t other }
     {
@@ -125,13 +124,15 @@ impl Placed {
 pub fn pair_check(one: RoundedBox, two: RoundedBox) -> Check
     ensures { result ≡ pair_check_of one two }
 {
-    one.check().and_then(two.check())
+    one.check()?;
+    two.check()
 }
 
 pub fn pair_fringe_check(one: RoundedBox, two: RoundedBox, fringe: f32) -> Check
     ensures { result ≡ pair_fringe_check_of one two fringe }
 {
-    pair_check(one, two).and_then(shape::fringe_check(fringe))
+    pair_check(one, two)?;
+    shape::fringe_check(fringe)
 }
 
 // ---- parallel
@@ -139,21 +140,15 @@ pub fn pair_fringe_check(one: RoundedBox, two: RoundedBox, fringe: f32) -> Check
 fn parallel_unchecked(one: RoundedBox, two: RoundedBox) -> bool
     ensures { result ≡ parallel_of one two }
 {
-    if let MaybePlaced::Placed(_) = alongside(one, two) {
-        true
-    } else {
-        false
-    }
+    alongside(one, two).is_some()
 }
 
 // Whether the sides of two boxes are parallel.
 // Ruled out: false for boxes a quarter turn apart; a fault of the second box told before one of
 // the first.
-pub fn parallel(one: RoundedBox, two: RoundedBox) -> TestAnswer
+pub fn parallel(one: RoundedBox, two: RoundedBox) -> Result<bool, Fault>
     ensures { result ≡ parallel_call one two }
 {
-    if let Check::Refused(fault) = pair_check(one, two) {
-        return TestAnswer::Refused(fault);
-    }
-    TestAnswer::Done(parallel_unchecked(one, two))
+    pair_check(one, two)?;
+    Ok(parallel_unchecked(one, two))
 }

@@ -19,7 +19,7 @@ use Rattle.cells.specs.Cells.{cells_of, byte_at, SizeAllowed}
 use Rattle.cells.proofs.Places.{front_byte}
 use Rattle.coverage.specs.Drawing.{drawing_row, drawing_of}
 use Rattle.coverage.proofs.Places.{drawing_length, drawing_byte}
-use Rattle.mask.specs.declared.Outcome.TheVariants.{Done}
+use Rattle.std.specs.Prelude.{Ok}
 use Rattle.ink.specs.Lent.{Lent, lent}
 use Rattle.mask.specs.Calls.{Drawing, mask_after_drawing}
 use Rattle.mask.specs.Laws.{CanDraw}
@@ -40,7 +40,7 @@ module _ (d : Drawing) (column row : ℕ) (c : column < d.size.width) (r : row <
   abbrev gs : List Group
   gs = groups_of d.words
 
-  byte_is : (mask : List ℕ) → byte_at d.size (mask_after_drawing Done d mask) column row ≡ get_or (drawing_row d.size gs row) column 0
+  byte_is : (mask : List ℕ) → byte_at d.size (mask_after_drawing (Ok tt) d mask) column row ≡ get_or (drawing_row d.size gs row) column 0
   byte_is mask =
       front_byte d.size (drawing_of d.size gs) (drop (cells_of d.size) mask) (drawing_length d.size gs) column row c r
       ∙ drawing_byte d.size gs column row c r
@@ -52,7 +52,7 @@ module _ (d : Drawing) (column row : ℕ) (c : column < d.size.width) (r : row <
 
   -- counted by cell
   by_cell : {lent : Lent} (mask : List ℕ) → CanDraw d lent
-      → Near (natᶠ (byte_at d.size (mask_after_drawing Done d mask) column row)) (natᶠ 255 *ᶠ drawn_share gs column row) (allowed_difference_at gs column row)
+      → Near (natᶠ (byte_at d.size (mask_after_drawing (Ok tt) d mask) column row)) (natᶠ 255 *ᶠ drawn_share gs column row) (allowed_difference_at gs column row)
   by_cell mask can =
       let a = allowed can in
       rw (byte_is mask) (row_near d.size row gs column c (groups_ok d.size row gs can.size_allowed r a.in_limit a.few))

@@ -1,5 +1,6 @@
 -- A box's check, that of two boxes and a fringe, of a touch list and of a list and a safe area, by their causes
 -- (specs/Causes.antt). Assumes nothing.
+use Rattle.std.specs.Prelude.{Ok, Err}
 use mathlib.Core.Path.{◌≡◌, refl, sym}
 use mathlib.Core.Bool.{Bool, true, false, ◌&&◌}
 use mathlib.Core.Logic.{◌⊎◌, inl, inr}
@@ -11,7 +12,6 @@ use borrow.Author.Tests.{lt-ltb, le-ltb, ltb-true, ltb-false}
 use Rattle.float.specs.Ops.{f0}
 use Rattle.fault.specs.declared.Fault.{Fault}
 use Rattle.fault.specs.declared.Fault.TheVariants.{NumberOutOfRange, ImproperBox, TooManyBoxes}
-use Rattle.fault.specs.declared.Check.TheVariants as check
 use Rattle.fault.specs.Check.{◌and_then◌}
 use Rattle.geometry.specs.declared.Position.{Position}
 use Rattle.geometry.specs.declared.Transform2D.{Transform2D}
@@ -77,12 +77,12 @@ unfolding improper_of
 either_improper b (inl h) = rw (side_improper b.ex b.rx h)
 either_improper b (inr h) = rw (side_improper b.ey b.ry h) (or_true (improper_side_of b.ex b.rx))
 
-pub box_refused : (b : RoundedBox) (f : Fault) → BoxFault b f → box_check_of b ≡ check.Refused f
+pub box_refused : (b : RoundedBox) (f : Fault) → BoxFault b f → box_check_of b ≡ Err f
 unfolding box_check_of
 box_refused b f (number h) = rw (box_numbers_lem b, h)
 box_refused b f (improper h i) = rw (box_numbers_lem b, h, either_improper b i)
 
-pub box_passes : (b : RoundedBox) → Faultless b → box_check_of b ≡ check.Pass
+pub box_passes : (b : RoundedBox) → Faultless b → box_check_of b ≡ Ok tt
 unfolding box_check_of improper_of
 box_passes b h = rw (box_numbers_lem b, h.in_range, side_proper b.ex b.rx h.proper_x, side_proper b.ey b.ry h.proper_y)
 
@@ -99,7 +99,7 @@ box_decided b = go (all_in_range_of (box_numbers b)) (side_decided b.ex b.rx) (s
 -- ---- two boxes and a fringe
 
 module _ (one two : RoundedBox) (fringe : Float) where
-  pub pair_refused : (f : Fault) → PairFault one two fringe f → pair_fringe_check_of one two fringe ≡ check.Refused f
+  pub pair_refused : (f : Fault) → PairFault one two fringe f → pair_fringe_check_of one two fringe ≡ Err f
   pair_refused f (of_first e) = rw (box_refused one f e)
   pair_refused f (of_second g e) = rw (box_passes one g, box_refused two f e)
   pair_refused f (of_fringe g h e) = rw (box_passes one g, box_passes two h, fringe_number fringe, e)
@@ -107,7 +107,7 @@ module _ (one two : RoundedBox) (fringe : Float) where
   abbrev pub PairFaultless : Type 0
   PairFaultless = Faultless one × Faultless two × InRange (fringe ∷ [])
 
-  pub pair_passes : PairFaultless → pair_fringe_check_of one two fringe ≡ check.Pass
+  pub pair_passes : PairFaultless → pair_fringe_check_of one two fringe ≡ Ok tt
   pair_passes h = rw (box_passes one h.0, box_passes two h.1, fringe_number fringe, h.2)
 
   pub pair_decided : Decided PairFaultless (PairFault one two fringe)
@@ -126,11 +126,11 @@ each_box : EachChecked Faultless BoxFault box_check_of boxes_check_of
 each_box = record { none = refl; next = λ b bs. refl; passes = box_passes; caused = box_refused }
 
 module _ (bs : List RoundedBox) where
-  list_refused : (f : Fault) → ListFault bs f → list_check_of bs ≡ check.Refused f
+  list_refused : (f : Fault) → ListFault bs f → list_check_of bs ≡ Err f
   list_refused f (too_many_boxes l) = rw (lt-ltb _ _ l)
   list_refused f (of_box l e) = rw (le-ltb _ _ l, first_refuses each_box bs f e)
 
-  list_passes : FaultlessList bs → list_check_of bs ≡ check.Pass
+  list_passes : FaultlessList bs → list_check_of bs ≡ Ok tt
   list_passes h = rw (le-ltb _ _ h.few, all_pass each_box bs h.boxes)
 
   list_decided : Decided (FaultlessList bs) (ListFault bs)
@@ -154,14 +154,14 @@ unfolding both_in_range_of all_in_range_of
 touch_numbers_lem fringe p = rw (and_true (in_range_of p.y)) (both_checks (in_range_of fringe) (in_range_of p.x && in_range_of p.y))
 
 module _ (bs : List RoundedBox) (fringe : Float) (p : Position) where
-  pub touch_refused : (f : Fault) → TouchFault bs fringe p f → touch_check_of bs fringe p ≡ check.Refused f
+  pub touch_refused : (f : Fault) → TouchFault bs fringe p f → touch_check_of bs fringe p ≡ Err f
   touch_refused f (of_touch_list e) = rw (list_refused bs f e)
   touch_refused f (of_touch g e) = rw (list_passes bs g, touch_numbers_lem fringe p, e)
 
   abbrev pub TouchFaultless : Type 0
   TouchFaultless = FaultlessList bs × InRange (touch_numbers fringe p)
 
-  pub touch_passes : TouchFaultless → touch_check_of bs fringe p ≡ check.Pass
+  pub touch_passes : TouchFaultless → touch_check_of bs fringe p ≡ Ok tt
   touch_passes h = rw (list_passes bs h.0, touch_numbers_lem fringe p, h.1)
 
   pub touch_decided : Decided TouchFaultless (TouchFault bs fringe p)
@@ -176,7 +176,7 @@ module _ (bs : List RoundedBox) (fringe : Float) (p : Position) where
 -- ---- a list and a safe area
 
 module _ (bs : List RoundedBox) (safe : RoundedBox) (fringe : Float) where
-  pub inside_refused : (f : Fault) → InsideFault bs safe fringe f → inside_check_of bs safe fringe ≡ check.Refused f
+  pub inside_refused : (f : Fault) → InsideFault bs safe fringe f → inside_check_of bs safe fringe ≡ Err f
   inside_refused f (of_list e) = rw (list_refused bs f e)
   inside_refused f (of_safe g e) = rw (list_passes bs g, box_refused safe f e)
   inside_refused f (of_safe_fringe g h e) = rw (list_passes bs g, box_passes safe h, fringe_number fringe, e)
@@ -184,7 +184,7 @@ module _ (bs : List RoundedBox) (safe : RoundedBox) (fringe : Float) where
   abbrev pub InsideFaultless : Type 0
   InsideFaultless = FaultlessList bs × Faultless safe × InRange (fringe ∷ [])
 
-  pub inside_passes : InsideFaultless → inside_check_of bs safe fringe ≡ check.Pass
+  pub inside_passes : InsideFaultless → inside_check_of bs safe fringe ≡ Ok tt
   inside_passes h = rw (list_passes bs h.0, box_passes safe h.1, fringe_number fringe, h.2)
 
   pub inside_decided : Decided InsideFaultless (InsideFault bs safe fringe)

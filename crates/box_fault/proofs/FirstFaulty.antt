@@ -1,4 +1,5 @@
 -- What a box with a half extent below 0 meets (specs/FirstFaulty.antt). Assumes nothing.
+use Rattle.std.specs.Prelude.{Err}
 use mathlib.Core.Path.{◌≡◌, refl, sym}
 use mathlib.Core.Bool.{Bool, true, false, true≢false, cond, ◌||◌}
 use mathlib.Core.Logic.{◌⊎◌, inl, inr}
@@ -9,7 +10,6 @@ use lib.ListN.{length}
 use Rattle.float.specs.Ops.{f0}
 use Rattle.fault.specs.declared.Fault.{Fault}
 use Rattle.fault.specs.declared.Fault.TheVariants.{NumberOutOfRange, ImproperBox}
-use Rattle.fault.specs.declared.Check.TheVariants as check
 use Rattle.fault.specs.Number.{number_of}
 use Rattle.shape.specs.declared.RoundedBox.{RoundedBox}
 use Rattle.shape.specs.Checks.{box_check_of}
@@ -39,7 +39,7 @@ caused : (b : RoundedBox) (good : Bool) → all_in_range_of (box_numbers b) ≡ 
 caused b true e h = improper e (either_below b h)
 caused b false e h = number e
 
-faulty : (b : RoundedBox) → below_zero_of b ≡ true → box_check_of b ≡ check.Refused (cause_of b)
+faulty : (b : RoundedBox) → below_zero_of b ≡ true → box_check_of b ≡ Err (cause_of b)
 faulty b h = box_refused b (cause_of b) (caused b (all_in_range_of (box_numbers b)) refl h)
 
 -- ---- as the first box, and as the second

@@ -1,4 +1,5 @@
 -- An outline's check, and that of an outline and a frame, by their causes (specs/Causes.antt). Assumes nothing.
+use Rattle.std.specs.Prelude.{Ok, Err}
 use mathlib.Core.Path.{◌≡◌, refl}
 use mathlib.Core.Bool.{Bool, true, false}
 use mathlib.Core.Logic.{inl, inr}
@@ -11,7 +12,6 @@ use lib.ListN.{length}
 use borrow.Author.Tests.{le-leb, lt-leb, leb-true, leb-false, eqb-true, eqb-false, eq-eqb, ne_eqb}
 use Rattle.fault.specs.declared.Fault.{Fault}
 use Rattle.fault.specs.declared.Fault.TheVariants.{NumberOutOfRange, UnknownVerb, PositionsMismatch, TooManyVerbs}
-use Rattle.fault.specs.declared.Check.TheVariants as check
 use Rattle.geometry.specs.declared.Transform2D.{Transform2D}
 use Rattle.path.specs.Verbs.{unpacked_of}
 use Rattle.outline.specs.Outline.{verb_check_of, verbs_check_of, floats_needed_of, all_in_range_of, outline_check_of}
@@ -25,7 +25,7 @@ use Rattle.box_fault.proofs.Boxes.{frame_numbers_lem}
 
 -- ---- one verb
 
-verb_known : (byte : ℕ) → KnownVerb byte → verb_check_of byte ≡ check.Pass
+verb_known : (byte : ℕ) → KnownVerb byte → verb_check_of byte ≡ Ok tt
 unfolding verb_check_of unpacked_of
 verb_known zero h = refl
 verb_known (suc zero) h = refl
@@ -35,7 +35,7 @@ verb_known (suc (suc (suc (suc zero)))) h = refl
 verb_known (suc (suc (suc (suc (suc zero))))) h = refl
 verb_known (suc (suc (suc (suc (suc (suc n)))))) h = absurd (omega arith)
 
-verb_at_fault : (byte : ℕ) (f : Fault) → VerbFault byte f → verb_check_of byte ≡ check.Refused f
+verb_at_fault : (byte : ℕ) (f : Fault) → VerbFault byte f → verb_check_of byte ≡ Err f
 unfolding verb_check_of unpacked_of
 verb_at_fault byte f (unknown l) =
     let above : (n : ℕ) → n ≤ 5 → eqb byte n ≡ false = λ n h. ne_eqb byte n (λ e. omega arith) in
@@ -57,14 +57,14 @@ each_verb = record { none = refl; next = λ byte bytes. refl; passes = verb_know
 -- ---- the outline
 
 module _ (verbs : List ℕ) (positions : List Float) where
-  pub outline_refused : (f : Fault) → OutlineFault verbs positions f → outline_check_of verbs positions ≡ check.Refused f
+  pub outline_refused : (f : Fault) → OutlineFault verbs positions f → outline_check_of verbs positions ≡ Err f
   unfolding outline_check_of
   outline_refused f (too_many l) = rw (lt-leb _ _ l)
   outline_refused f (of_verb l e) = rw (le-leb _ _ l, first_refuses each_verb verbs f e)
   outline_refused f (mismatch l s n) = rw (le-leb _ _ l, all_pass each_verb verbs s, ne_eqb _ _ n)
   outline_refused f (of_position l s e h) = rw (le-leb _ _ l, all_pass each_verb verbs s, eq-eqb _ _ e, h)
 
-  pub outline_passes : FaultlessOutline verbs positions → outline_check_of verbs positions ≡ check.Pass
+  pub outline_passes : FaultlessOutline verbs positions → outline_check_of verbs positions ≡ Ok tt
   unfolding outline_check_of
   outline_passes h = rw (le-leb _ _ h.few, all_pass each_verb verbs h.known, eq-eqb _ _ h.match, h.in_range)
 
@@ -84,11 +84,11 @@ module _ (verbs : List ℕ) (positions : List Float) where
   -- ---- the outline and a frame
 
   module _ (t : Transform2D) where
-    pub framed_refused : (f : Fault) → OutlineFrameFault verbs positions t f → outline_frame_check_of verbs positions t ≡ check.Refused f
+    pub framed_refused : (f : Fault) → OutlineFrameFault verbs positions t f → outline_frame_check_of verbs positions t ≡ Err f
     framed_refused f (of_outline e) = rw (outline_refused f e)
     framed_refused f (of_frame g e) = rw (outline_passes g, frame_numbers_lem t, e)
 
-    pub framed_passes : FaultlessOutline verbs positions × InRange (frame_numbers t) → outline_frame_check_of verbs positions t ≡ check.Pass
+    pub framed_passes : FaultlessOutline verbs positions × InRange (frame_numbers t) → outline_frame_check_of verbs positions t ≡ Ok tt
     framed_passes h = rw (outline_passes h.0, frame_numbers_lem t, h.1)
 
     pub framed_decided : Decided (FaultlessOutline verbs positions × InRange (frame_numbers t)) (OutlineFrameFault verbs positions t)

@@ -1,6 +1,6 @@
 -- Window and picture apart: two trims with a negative half extent, and what later calls answer to each, at every place
 -- where a call takes a box. Stated of the calls' definitions. Proved in proofs/Apart.antt.
-use Rattle.std.specs.Prelude.{◌≡◌, [], ◌∷◌, Float}
+use Rattle.std.specs.Prelude.{◌≡◌, [], ◌∷◌, Float, Some, Ok, Err}
 use Rattle.std.specs.Float.{binary32}
 use Rattle.std.specs.Float.Ieee.{of_bits}
 use Rattle.float.specs.Ops.{f0, f½, f1}
@@ -8,14 +8,9 @@ use Rattle.fault.specs.declared.Fault.{Fault}
 use Rattle.fault.specs.declared.Fault.TheVariants.{NumberOutOfRange, ImproperBox}
 use Rattle.geometry.specs.declared.Position.{Position}
 use Rattle.shape.specs.declared.RoundedBox.{RoundedBox}
-use Rattle.shape.specs.declared.BoxAnswer.TheVariants as box
-use Rattle.covering.specs.declared.CoverageAnswer.TheVariants as covered
 use Rattle.covering.specs.Calls.{coverage_call}
-use Rattle.touch.specs.declared.TouchAnswer.TheVariants as touched
 use Rattle.touch.specs.Touch.{touch_call}
-use Rattle.inside.specs.declared.InsideAnswer.TheVariants as inside
 use Rattle.inside.specs.Inside.{inside_call}
-use Rattle.scissor.specs.declared.ScissorAnswer.TheVariants as scissor
 use Rattle.scissor.specs.Calls.{with_scissor_call, trimmed_scissor_call}
 
 -- a square box with a frame that scales and moves along x
@@ -73,12 +68,12 @@ origin = record { x = f0; y = f0 }
 -- a window and a picture, the trim of the one by the other, and what later calls meet: as the only box, as the second,
 -- at place 1 of a list and as the safe area
 pub record TrimMeets (picture window trim : RoundedBox) (f : Fault) : Type 0 where
-  pub trimmed : trimmed_scissor_call picture window f1 ≡ box.Box trim
-  pub coverage : coverage_call trim f1 ≡ covered.Refused f
-  pub with_scissor : with_scissor_call window trim f1 ≡ scissor.Refused f
-  pub touch : touch_call (window ∷ trim ∷ []) f1 origin ≡ touched.Refused f
-  pub all_inside : inside_call (window ∷ trim ∷ []) window f1 ≡ inside.Refused f
-  pub safe_area : inside_call (window ∷ []) trim f1 ≡ inside.Refused f
+  pub trimmed : trimmed_scissor_call picture window f1 ≡ Ok (Some trim)
+  pub coverage : coverage_call trim f1 ≡ Err f
+  pub with_scissor : with_scissor_call window trim f1 ≡ Err f
+  pub touch : touch_call (window ∷ trim ∷ []) f1 origin ≡ Err f
+  pub all_inside : inside_call (window ∷ trim ∷ []) window f1 ≡ Err f
+  pub safe_area : inside_call (window ∷ []) trim f1 ≡ Err f
 
 -- 'any later call whose first fault is that box meets number 2, or 1 where a number in it is over 2^20'
 abbrev pub Apart : Type 0

@@ -1,10 +1,8 @@
 -- What is refused of a list of boxes. Document 01: 'Boxes: 12, then per box 1, 2, first box before second'.
 -- Definitions only.
-use Rattle.std.specs.Prelude.{ℕ, cond, List, [], ◌∷◌, ltb, length}
+use Rattle.std.specs.Prelude.{ℕ, cond, List, [], ◌∷◌, ltb, length, Ok, Err}
 use Rattle.fault.specs.declared.Fault.TheVariants as fault
-use Rattle.fault.specs.declared.Check.{Check}
-use Rattle.fault.specs.declared.Check.TheVariants as check
-use Rattle.fault.specs.Check.{◌and_then◌}
+use Rattle.fault.specs.Check.{Check, ◌and_then◌}
 use Rattle.shape.specs.declared.RoundedBox.{RoundedBox}
 use Rattle.shape.specs.Checks.{box_check_of}
 
@@ -14,7 +12,7 @@ most_boxes = 4096
 
 -- number 12, of n boxes where at most `most` are taken
 abbrev pub count_check_within : ℕ → ℕ → Check
-count_check_within most n = cond (ltb most n) (check.Refused fault.TooManyBoxes) check.Pass
+count_check_within most n = cond (ltb most n) (Err fault.TooManyBoxes) (Ok tt)
 
 -- 'Number 12 is now for more than 4,096'
 abbrev pub count_check_of : ℕ → Check
@@ -22,7 +20,7 @@ count_check_of n = count_check_within most_boxes n
 
 -- 'per box 1, 2, first box before second'
 abbrev pub boxes_check_of : List RoundedBox → Check
-boxes_check_of [] = check.Pass
+boxes_check_of [] = Ok tt
 boxes_check_of (b ∷ bs) = box_check_of b and_then boxes_check_of bs
 
 -- 'Boxes: 12, then per box'

@@ -1,291 +1,178 @@
 // The buffers of the call runner, for masks and for their ink: filled, shown, looked at.
 #![tactic(auto)]
 
-use fields::{Field, MOST_LINE, Problem};
+use arrayvec::ArrayVec;
+use fields::{Fields, Problem};
 use std::io::{self, Write};
+use writing::Failure;
 
 pub const MOST_BYTES: usize = 65536;
 // The most numbers of an ink buffer. No mask asks for more than 8,192.
 pub const MOST_INK: usize = 8200;
+// The numbers of an ink buffer at first: enough for every mask.
+const FIRST_INK: usize = 8192;
 
-// The lengths of a mask buffer and of its ink buffer.
-#[derive(Clone, Copy)]
-pub struct Lengths {
-    pub mask: usize,
-    pub ink: usize,
+// A mask buffer and its ink buffer.
+#[derive(Drop)]
+pub struct Buffers {
+    pub mask: ArrayVec<u8, MOST_BYTES>,
+    pub ink: ArrayVec<u16, MOST_INK>,
 }
 
-// The buffers' lengths after a call, and what is wrong with the call's line.
-#[derive(Clone, Copy)]
-pub struct AfterCall {
-    pub lengths: Lengths,
-    pub problem: Problem,
-}
-
-pub fn left(lengths: Lengths, problem: Problem) -> AfterCall {
-    AfterCall { lengths, problem }
-}
-
-// The lengths that a call gives the buffers, with its answer.
-fn set(out: &mut impl Write, mask: usize, ink: usize) -> io::Result<AfterCall> {
-    writing::write(out, b"done\n")?;
-    Ok(left(Lengths { mask, ink }, Problem::Nothing))
-}
-
-// How many bytes are read from a line, and what is wrong with it.
-#[derive(Clone, Copy)]
-pub struct ReadBytes {
-    pub count: usize,
-    pub problem: Problem,
-}
-
-fn read(count: usize, problem: Problem) -> ReadBytes {
-    ReadBytes { count, problem }
-}
-
-fn store_hex(line: &[u8; MOST_LINE], f: Field, buffer: &mut [u8; MOST_BYTES]) -> usize {
-    let end = f.end;
-    let mut at = f.start;
-    let mut n = 0;
-    while n < MOST_BYTES {
-        if end <= at {
-            return n;
-        }
-        if MOST_LINE <= at {
-            return n;
-        }
-        buffer[n] = fields::hex_byte(line, at, at + 1);
-        at += 2;
-        n += 1;
-    }
-    n
-}
-
-fn hex_problem(line: &[u8; MOST_LINE], f: Field) -> Problem {
-    let start = f.start;
-    let end = f.end;
-    if end <= start {
-        return Problem::FieldMissing;
-    }
-    let digits = end - start;
-    if !fields::is_hex(line, f) || digits % 2 != 0 {
-        return Problem::NotHex;
-    }
-    if digits / 2 > MOST_BYTES {
-        return Problem::BufferTooLong;
-    }
-    fields::at_end(line, end)
-}
-
-// The bytes of a line's last field, put into a buffer: how many, or what is wrong.
-pub fn read_bytes(line: &[u8; MOST_LINE], at: usize, bytes: &mut [u8; MOST_BYTES]) -> ReadBytes {
-    let f = fields::next(line, at);
-    if fields::is(line, f, b"-") {
-        return read(0, fields::at_end(line, f.end));
-    }
-    match hex_problem(line, f) {
-        Problem::Nothing => read(store_hex(line, f, bytes), Problem::Nothing),
-        problem => read(0, problem),
-    }
-}
-
-pub fn buf(
-    out: &mut impl Write,
-    line: &[u8; MOST_LINE],
-    at: usize,
-    buffer: &mut [u8; MOST_BYTES],
-    lengths: Lengths,
-) -> io::Result<AfterCall> {
-    let bytes = read_bytes(line, at, buffer);
-    let problem = bytes.problem;
-    match problem {
-        Problem::Nothing => set(out, bytes.count, lengths.ink),
-        problem => Ok(left(lengths, problem)),
-    }
-}
-
-fn fill(buffer: &mut [u8; MOST_BYTES], length: usize, byte: u8) {
-    let mut i = 0;
-    while i < MOST_BYTES {
-        if length <= i {
-            return;
-        }
-        buffer[i] = byte;
-        i += 1;
-    }
-}
-
-pub fn bufn(
-    out: &mut impl Write,
-    line: &[u8; MOST_LINE],
-    at: usize,
-    buffer: &mut [u8; MOST_BYTES],
-    lengths: Lengths,
-) -> io::Result<AfterCall> {
-    let first = fields::size_at(line, at);
-    let second = fields::size_at(line, first.at);
-    if !first.good || !second.good {
-        return Ok(left(lengths, Problem::NotANumber));
-    }
-    let n = first.value;
-    let byte = second.value;
-    if n > MOST_BYTES {
-        return Ok(left(lengths, Problem::BufferTooLong));
-    }
-    if byte > 255 {
-        return Ok(left(lengths, Problem::NotAByte));
-    }
-    let Problem::Nothing = fields::at_end(line, second.at) else {
-        return Ok(left(lengths, Problem::FieldTooMany));
-    };
-    fill(buffer, n, byte as u8);
-    set(out, n, lengths.ink)
-}
-
-fn show_bytes(out: &mut impl Write, buffer: &[u8], length: usize) -> io::Result<()> {
-    if length <= buffer.len() {
-        writing::hex(out, &buffer[0..length])?;
-    }
-    Ok(())
-}
-
-pub fn show(
-    out: &mut impl Write,
-    line: &[u8; MOST_LINE],
-    at: usize,
-    buffer: &[u8; MOST_BYTES],
-    length: usize,
-) -> io::Result<Problem> {
-    let Problem::Nothing = fields::at_end(line, at) else {
-        return Ok(Problem::FieldTooMany);
-    };
-    if length == 0 {
-        writing::write(out, b"-")?;
-    }
-    show_bytes(out, buffer, length)?;
-    writing::write(out, b"\n")?;
-    Ok(Problem::Nothing)
-}
-
-// A cell's shade, from none to all.
-fn shade(out: &mut impl Write, byte: u8) -> io::Result<()> {
-    match byte {
-        0..=25 => writing::write(out, b" "),
-        26..=76 => writing::write(out, b"."),
-        77..=127 => writing::write(out, b":"),
-        128..=178 => writing::write(out, b"+"),
-        179..=229 => writing::write(out, b"#"),
-        230..=255 => writing::write(out, b"@"),
-    }
-}
-
-// A line for each row that the buffer has whole or in part.
-fn picture_cells(
-    out: &mut impl Write,
-    buffer: &[u8; MOST_BYTES],
-    length: usize,
-    width: usize,
-    height: usize,
-) -> io::Result<()> {
-    if width == 0 {
-        return Ok(());
-    }
-    for i in 0..MOST_BYTES {
-        if length <= i {
-            return Ok(());
-        }
-        if height <= i / width {
-            return Ok(());
-        }
-        shade(out, buffer[i])?;
-        if (i + 1) % width == 0 {
-            writing::write(out, b"\n")?;
+impl Buffers {
+    pub fn new() -> Self {
+        Buffers {
+            mask: ArrayVec::new(),
+            ink: alike(7, FIRST_INK),
         }
     }
-    Ok(())
 }
 
-pub fn picture(
-    out: &mut impl Write,
-    line: &[u8; MOST_LINE],
-    at: usize,
-    buffer: &[u8; MOST_BYTES],
-    length: usize,
-) -> io::Result<Problem> {
-    let width = fields::size_at(line, at);
-    let height = fields::size_at(line, width.at);
-    if !width.good || !height.good {
-        return Ok(Problem::NotANumber);
-    }
-    let Problem::Nothing = fields::at_end(line, height.at) else {
-        return Ok(Problem::FieldTooMany);
-    };
-    picture_cells(out, buffer, length, width.value, height.value)?;
-    Ok(Problem::Nothing)
+// The running mask's buffers and the next mask's.
+#[derive(Drop)]
+pub struct Held {
+    pub run: Buffers,
+    pub next: Buffers,
 }
 
-// ---- ink
-
-fn fill_ink(ink: &mut [u16; MOST_INK], length: usize, number: u16) {
-    let mut i = 0;
-    while i < MOST_INK {
-        if length <= i {
-            return;
+impl Held {
+    pub fn new() -> Self {
+        Held {
+            run: Buffers::new(),
+            next: Buffers::new(),
         }
-        ink[i] = number;
-        i += 1;
     }
+
+    // The buffers that the next field names.
+    pub fn named(&mut self, fields: &mut Fields) -> Result<&mut Buffers, Problem> {
+        match fields.next() {
+            Some(b"run") => Ok(&mut self.run),
+            Some(b"next") => Ok(&mut self.next),
+            _ => Err(Problem::UnknownBuffer),
+        }
+    }
+}
+
+// So many elements, all alike, as far as there is room.
+fn alike<T: Copy + Default + Drop, const N: usize>(element: T, length: usize) -> ArrayVec<T, N> {
+    let mut list = ArrayVec::new();
+    for _ in 0..length {
+        let _ = list.try_push(element);
+    }
+    list
+}
+
+// ---- filled
+
+// The bytes of a line's last field, in pairs of hexadecimal digits.
+pub fn read_bytes(mut fields: Fields) -> Result<ArrayVec<u8, MOST_BYTES>, Problem> {
+    let field = fields.next().ok_or(Problem::FieldMissing)?;
+    let digits = if field == b"-".as_slice() { &[] } else { field };
+    if digits.len() % 2 != 0 || !digits.iter().all(u8::is_ascii_hexdigit) {
+        return Err(Problem::NotHex);
+    }
+    // Pairs of digits fail only where there is no room for all.
+    let mut bytes = alike(0, digits.len() / 2);
+    hex::decode_to_slice(digits, bytes.as_mut_slice()).map_err(|_| Problem::BufferTooLong)?;
+    fields.at_end()?;
+    Ok(bytes)
+}
+
+pub fn buf(out: &mut impl Write, buffers: &mut Buffers, fields: Fields) -> Result<(), Failure> {
+    buffers.mask = read_bytes(fields)?;
+    Ok(writing::done(out)?)
+}
+
+// A length and a number: so many of it, if there is room for them and if it is an element.
+fn read_alike<T: TryFrom<usize> + Copy + Default + Drop, const N: usize>(
+    mut fields: Fields,
+    too_long: Problem,
+    too_large: Problem,
+) -> Result<ArrayVec<T, N>, Problem>
+where
+    T::Error: Drop,
+{
+    let length = fields.natural()?;
+    let number = fields.natural()?;
+    if length > N {
+        return Err(too_long);
+    }
+    let element = T::try_from(number).map_err(|_| too_large)?;
+    fields.at_end()?;
+    Ok(alike(element, length))
+}
+
+pub fn bufn(out: &mut impl Write, buffers: &mut Buffers, fields: Fields) -> Result<(), Failure> {
+    buffers.mask = read_alike(fields, Problem::BufferTooLong, Problem::NotAByte)?;
+    Ok(writing::done(out)?)
 }
 
 // Makes an ink buffer so long, each number the same.
-pub fn ink(
-    out: &mut impl Write,
-    line: &[u8; MOST_LINE],
-    at: usize,
-    ink: &mut [u16; MOST_INK],
-    lengths: Lengths,
-) -> io::Result<AfterCall> {
-    let first = fields::size_at(line, at);
-    let second = fields::size_at(line, first.at);
-    if !first.good || !second.good {
-        return Ok(left(lengths, Problem::NotANumber));
-    }
-    let n = first.value;
-    let number = second.value;
-    if n > MOST_INK {
-        return Ok(left(lengths, Problem::InkTooLong));
-    }
-    if number > 65535 {
-        return Ok(left(lengths, Problem::NotSixteenBits));
-    }
-    let Problem::Nothing = fields::at_end(line, second.at) else {
-        return Ok(left(lengths, Problem::FieldTooMany));
-    };
-    fill_ink(ink, n, number as u16);
-    set(out, lengths.mask, n)
+pub fn ink(out: &mut impl Write, buffers: &mut Buffers, fields: Fields) -> Result<(), Failure> {
+    buffers.ink = read_alike(fields, Problem::InkTooLong, Problem::NotSixteenBits)?;
+    Ok(writing::done(out)?)
 }
 
-fn show_numbers(out: &mut impl Write, ink: &[u16], length: usize) -> io::Result<()> {
-    if length <= ink.len() {
-        writing::numbers(out, &ink[0..length])?;
+// ---- shown
+
+// A list, or a dash where it is empty.
+fn show_list<T, W: Write, F: FnOnce(&mut W, &[T]) -> io::Result<()>>(
+    out: &mut W,
+    list: &[T],
+    fields: Fields,
+    write: F,
+) -> Result<(), Failure>
+    requires { F.IsAlwaysCallable write }
+{
+    fields.at_end()?;
+    if list.is_empty() {
+        write!(out, "-")?;
+    }
+    write(out, list)?;
+    Ok(writeln!(out)?)
+}
+
+pub fn show(out: &mut impl Write, mask: &[u8], fields: Fields) -> Result<(), Failure> {
+    show_list(out, mask, fields, |out, mask| writing::hex(out, mask))
+}
+
+pub fn show_ink(out: &mut impl Write, ink: &[u16], fields: Fields) -> Result<(), Failure> {
+    show_list(out, ink, fields, |out, ink| writing::numbers(out, ink))
+}
+
+// ---- looked at
+
+// A cell's shade, from none to all.
+fn shade(byte: u8) -> char {
+    match byte {
+        0..=25 => ' ',
+        26..=76 => '.',
+        77..=127 => ':',
+        128..=178 => '+',
+        179..=229 => '#',
+        230..=255 => '@',
+    }
+}
+
+// A line for each row that the mask has whole; a row in part ends no line.
+fn picture_cells(out: &mut impl Write, mask: &[u8], width: usize, height: usize) -> io::Result<()> {
+    if width == 0 {
+        return Ok(());
+    }
+    for row in mask.chunks(width).take(height) {
+        for byte in row {
+            write!(out, "{}", shade(*byte))?;
+        }
+        if row.len() == width {
+            writeln!(out)?;
+        }
     }
     Ok(())
 }
 
-pub fn show_ink(
-    out: &mut impl Write,
-    line: &[u8; MOST_LINE],
-    at: usize,
-    ink: &[u16; MOST_INK],
-    length: usize,
-) -> io::Result<Problem> {
-    let Problem::Nothing = fields::at_end(line, at) else {
-        return Ok(Problem::FieldTooMany);
-    };
-    if length == 0 {
-        writing::write(out, b"-")?;
-    }
-    show_numbers(out, ink, length)?;
-    writing::write(out, b"\n")?;
-    Ok(Problem::Nothing)
+pub fn picture(out: &mut impl Write, mask: &[u8], mut fields: Fields) -> Result<(), Failure> {
+    let width = fields.natural()?;
+    let height = fields.natural()?;
+    fields.at_end()?;
+    Ok(picture_cells(out, mask, width, height)?)
 }

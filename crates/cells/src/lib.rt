@@ -1,8 +1,7 @@
-// A mask's cells: its size, its corner on the sheet, and lent buffers cleared and written.
+// A mask's cells: its size, its corner on the sheet, and a lent buffer written.
 #![tactic(auto)]
 
-ghost use Rattle.std.specs.Prelude.{◌≡◌, ◌+◌, ◌≤◌, length, replicate};
-ghost use Rattle.float.specs.Ops.{f0};
+ghost use Rattle.std.specs.Prelude.{◌≡◌, ◌+◌, ◌≤◌, length};
 ghost use Rattle.cells.specs.Cells.{too_large};
 ghost use Rattle.cells.specs.Corner.{corner_number_out, corner_out};
 ghost use Rattle.cells.specs.Over.{over};
@@ -36,6 +35,7 @@ impl Corner {
     // The largest size of a corner's number, where masks are laid on by corners.
     pub const LARGEST_NUMBER: i32 = 1048576;
 
+    #[tactic(auto, unfolding(crate::specs::Corner::corner_number_out))]
     fn is_beyond(n: i32) -> bool
         ensures { result ≡ corner_number_out n }
     {
@@ -56,38 +56,6 @@ pub struct MaskRecord {
     pub corner: Corner,
 }
 
-// ---- lent buffers, cleared
-
-pub fn clear_bytes(bytes: &mut [u8])
-    ensures { bytes.new ≡ replicate (length bytes.old) 0 }
-{
-    let mut i = 0;
-    while i < bytes.len() {
-        bytes[i] = 0;
-        i += 1;
-    }
-}
-
-pub fn clear_floats(floats: &mut [f32])
-    ensures { floats.new ≡ replicate (length floats.old) f0 }
-{
-    let mut i = 0;
-    while i < floats.len() {
-        floats[i] = 0.0;
-        i += 1;
-    }
-}
-
-pub fn clear_counters(counters: &mut [u64])
-    ensures { counters.new ≡ replicate (length counters.old) 0 }
-{
-    let mut i = 0;
-    while i < counters.len() {
-        counters[i] = 0;
-        i += 1;
-    }
-}
-
 // ---- a lent buffer, written
 
 // Writes bytes from a place on. Returns the place behind them.
@@ -96,10 +64,7 @@ pub fn put_bytes(to: &mut [u8], at: usize, bytes: &[u8]) -> usize
     ensures value { result ≡ at + length bytes.now }
     ensures to_after { to.new ≡ over bytes.now at to.old }
 {
-    let mut i = 0;
-    while i < bytes.len() {
-        to[at + i] = bytes[i];
-        i += 1;
-    }
-    at + i
+    let end = at + bytes.len();
+    to[at..end].copy_from_slice(bytes);
+    end
 }

@@ -10,9 +10,9 @@ ghost use Rattle.clip_coverage.specs.Distance.{framed_of, side_of, corner_of, ro
 ghost use Rattle.clip_coverage.specs.Distance.{edge_distance_of, locate_of, distance_of, holds_point_of, contains_of};
 ghost use Rattle.clip_coverage.specs.Calls.{distance_call, contains_call};
 
-use fault::{Check, Fault};
+use fault::Fault;
 use geometry::Position;
-use shape::{RoundedBox, TestAnswer};
+use shape::RoundedBox;
 
 // A box as a draw takes it: the map from device pixels to the box's frame, scaled so that one unit
 // is one fringe width across each side, and the box in those units.
@@ -44,12 +44,6 @@ pub struct Located {
     pub round: bool,
 }
 
-#[derive(Clone, Copy)]
-pub enum DistanceAnswer {
-    Distance(f32),
-    Refused(Fault),
-}
-
 impl ClipCoverage {
     // How far, in fringe widths, a box may stray out of another and still lie inside it, and a touch may
     // fall past a box and still be held by it.
@@ -57,6 +51,18 @@ impl ClipCoverage {
 
     // How far, in fringe widths, a draw may reach past a clip's edge and still be inside it: 1 / 64.
     pub const DRAW_SLACK: f32 = 0.015625;
+
+    // How close to parallel a frame's axes may come, as the squared sine of the angle between them.
+    pub const MIN_AXIS_SPREAD: f32 = 1e-4;
+
+    // The half extent, in fringe widths, under which a box has no coverage.
+    pub const MIN_HALF_EXTENT: f32 = 0.5;
+
+    // The corner radius, in fringe widths, under which a corner is taken as square.
+    pub const SQUARE_CORNER_BELOW: f32 = 0.5;
+
+    // How far past a side, in fringe widths, its ramp ends.
+    pub const RAMP: f32 = 0.5;
 
     // ---- distance
 
@@ -106,12 +112,14 @@ impl ClipCoverage {
         self.rx > 0.0 && corner.x > 0.0 && corner.y > 0.0
     }
 
+    #[tactic(auto, unfolding(crate::specs::Distance::lean_of))]
     fn lean(self, u: Position) -> f32
         ensures { result ≡ lean_of self u }
     {
         (self.la * self.lc + self.lb * self.ld) * float::signum(u.x) * float::signum(u.y)
     }
 
+    #[tactic(auto, unfolding(crate::specs::Distance::corner_distance_of))]
     fn corner_distance(self, u: Position, corner: Position) -> f32
         ensures { result ≡ corner_distance_of self u corner }
     {
@@ -125,6 +133,7 @@ impl ClipCoverage {
     }
 
     // The distance from a corner's arc, or else from the nearer side.
+    #[tactic(auto, unfolding(crate::specs::Distance::edge_distance_of))]
     fn edge_distance(self, u: Position, side: Position, corner: Position) -> f32
         ensures { result ≡ edge_distance_of self u side corner }
     {
@@ -135,6 +144,7 @@ impl ClipCoverage {
     }
 
     // A position's distance, and whether it lies off one of the box's round corners or off a side.
+    #[tactic(auto, unfolding(crate::specs::Distance::locate_of))]
     fn locate(self, p: Position) -> Located
         ensures { result ≡ locate_of self p }
     {
@@ -148,6 +158,7 @@ impl ClipCoverage {
 
     // Whether it lies off a round corner, alone. With a second caller of `locate` the compiler would leave
     // `round` in every distance.
+    #[tactic(auto, unfolding(crate::specs::Distance::locate_of))]
     pub fn off_round_corner(self, p: Position) -> bool
         ensures { result ≡ (locate_of self p).round }
     {
@@ -155,6 +166,7 @@ impl ClipCoverage {
         self.round(self.corner(side))
     }
 
+    #[tactic(auto, unfolding(crate::specs::Distance::distance_of))]
     pub fn distance_unchecked(self, p: Position) -> f32
         ensures { result ≡ distance_of self p }
     {
@@ -165,18 +177,17 @@ impl ClipCoverage {
     // Signed distance from the box's edge at a device position, in fringe widths and negative inside.
     // Ruled out: the distance from the sides alone at a round corner; a NaN where one side alone is
     // one.
-    pub fn distance(self, p: Position) -> DistanceAnswer
+    pub fn distance(self, p: Position) -> Result<f32, Fault>
         ensures { result ≡ distance_call self p }
     {
-        if let Check::Refused(fault) = shape::point_check(p) {
-            return DistanceAnswer::Refused(fault);
-        }
-        DistanceAnswer::Distance(self.distance_unchecked(p))
+        shape::point_check(p)?;
+        Ok(self.distance_unchecked(p))
     }
 
     // ---- contains
 
     // Whether a point lies inside, within CONTAINMENT_SLACK.
+    #[tactic(auto, unfolding(crate::specs::Distance::holds_point_of))]
     pub fn holds_point(self, p: Position) -> bool
         ensures { result ≡ holds_point_of self p }
     {
@@ -186,26 +197,16 @@ impl ClipCoverage {
     pub fn contains_unchecked(self, other: RoundedBox) -> bool
         ensures { result ≡ contains_of self other }
     {
-        let mut i: usize = 0;
-        while i < 36 {
-            if self.holds_point(other.outline_point(i)) {
-                i += 1;
-            } else {
-                return false;
-            }
-        }
-        true
+        other.every_outline_point(|p| self.holds_point(p))
     }
 
     // Whether `other` lies inside this box, within CONTAINMENT_SLACK, so that clipping to both is
     // clipping to `other`.
     // Ruled out: a test of the four corners alone; true where a distance is a NaN.
-    pub fn contains(self, other: RoundedBox) -> TestAnswer
+    pub fn contains(self, other: RoundedBox) -> Result<bool, Fault>
         ensures { result ≡ contains_call self other }
     {
-        if let Check::Refused(fault) = other.check() {
-            return TestAnswer::Refused(fault);
-        }
-        TestAnswer::Done(self.contains_unchecked(other))
+        other.check()?;
+        Ok(self.contains_unchecked(other))
     }
 }

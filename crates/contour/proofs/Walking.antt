@@ -40,11 +40,11 @@ last_at (suc n) ws at = let z : at + 2 + 2 * n ≡ at + 2 * suc n = omega arith 
 
 -- it starts at the last point
 from_last : (height m : ℕ) (ws : List ℤ) (at : ℕ) → 0 < m
-    → contour_of height (points_at m ws at) ≡ walk_of height (point_at ws (at + 2 * m - 2)) (points_at m ws at)
+    → contour_of height (points_at m ws at) ≡ walk_of height (point_at ws (at + 2 * (m - 1))) (points_at m ws at)
 unfolding contour_of points_at
 from_last height zero ws at h = absurd (omega arith)
 from_last height (suc m) ws at h =
-    let z : at + 2 * m ≡ at + 2 * suc m - 2 = omega arith in
+    let z : at + 2 * m ≡ at + 2 * (suc m - 1) = omega arith in
     ap (λ (p : Point). walk_of height p (point_at ws at ∷ points_at m ws (at + 2))) (last_at m ws at ∙ ap (point_at ws) z)
 
 one_edge : (height : ℕ) (p : Point) (m : ℕ) (ws : List ℤ) (next : ℕ)
@@ -70,13 +70,13 @@ pub record Walk (height : ℕ) (ws : List ℤ) (at n : ℕ) (fs : List Float) (e
   pub whole : contour_of height (points_at n ws at) ≡ new ++ walk_of height point (points_at (n - done) ws next)
 
 module _ {height : ℕ} {ws : List ℤ} {at n : ℕ} {fs : List Float} {edges before : ℕ} where
-  pub walk_start : 0 < n → {x y : Float} → x ≡ coordinate_of (point_at ws (at + 2 * n - 2)).x → y ≡ coordinate_of (point_at ws (at + 2 * n - 2)).y
+  pub walk_start : 0 < n → {x y : Float} → x ≡ coordinate_of (point_at ws (at + 2 * (n - 1))).x → y ≡ coordinate_of (point_at ws (at + 2 * (n - 1))).y
       → Walk height ws at n fs edges before at fs x y before
   walk_start h p q = record {
     done = 0;
     within = omega arith;
     place = omega arith;
-    point = point_at ws (at + 2 * n - 2);
+    point = point_at ws (at + 2 * (n - 1));
     x_is = p;
     y_is = q;
     new = [];
@@ -144,7 +144,5 @@ module _ (ws : List ℤ) (at n : ℕ) (fine : Fine (read_points n (drop at ws)))
   walk_inside w h = record { there = rw w.place (points_read.1 w.done (omega arith)); steps = omega arith }
 
   -- the whole contour lies within the list
-  pub last_there : 0 < n → Inside ws at n (at + 2 * n - 2)
-  last_there h =
-      let z : at + 2 * n - 2 ≡ at + 2 * (n - 1) = omega arith in
-      record { there = rw z (points_read.1 (n - 1) (omega arith)); steps = omega arith }
+  pub last_there : 0 < n → Inside ws at n (at + 2 * (n - 1))
+  last_there h = record { there = points_read.1 (n - 1) (omega arith); steps = omega arith }

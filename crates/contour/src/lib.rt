@@ -1,50 +1,38 @@
 // The contours of a group, read from a word list that was checked: their edges, stored in lent floats.
 #![tactic(auto)]
 
-ghost use Rattle.std.specs.Prelude.{◌≡◌, false, ◌+◌, ◌*◌, ◌≤◌, ◌<◌, ℤ, pos, length, get_or, drop};
+ghost use Rattle.std.specs.Prelude.{◌≡◌, false, Some, ◌+◌, ◌*◌, ◌≤◌, ◌<◌, ℤ, pos, length, get_or, drop};
 ghost use Rattle.word_list.specs.Words.{beyond, read_points, read_contours, points_of};
 ghost use Rattle.words.specs.Scan.{Fine, points_from, contours_from, end_of};
-ghost use Rattle.word_reader.specs.declared.Word.TheVariants.{Value};
 ghost use Rattle.edge.specs.Floats.{Pushed};
 ghost use Rattle.contour.specs.Contours.{coordinate_of, contour_of, edges_of};
 
-use word_reader::{Counted, Word};
+use edge::Point;
 
-// A point of a contour, in cells.
-#[derive(Clone, Copy)]
-struct Point {
-    x: f32,
-    y: f32,
+// SUBPIXELS of coverage.rs: how many steps of a coordinate make a cell.
+const SUBPIXELS: f32 = 256.0;
+
+// A coordinate word, in cells.
+fn coordinate(word: Option<i32>) -> f32
+    requires { (w : ℤ) → word ≡ Some w → beyond w ≡ false }
+    ensures { (w : ℤ) → word ≡ Some w → result ≡ coordinate_of w }
+{
+    let Some(x) = word else {
+        return 0.0;
+    };
+    (x as f32) / SUBPIXELS
 }
 
-impl Point {
-    // SUBPIXELS of coverage.rs: how many steps of a coordinate make a cell.
-    const SUBPIXELS: f32 = 256.0;
-
-    // A coordinate word, in cells.
-    fn coordinate(word: Word) -> f32
-        requires { (w : ℤ) → word ≡ Value w → beyond w ≡ false }
-        ensures { (w : ℤ) → word ≡ Value w → result ≡ coordinate_of w }
-    {
-        let Word::Value(x) = word else {
-            return 0.0;
-        };
-        (x as f32) / Self::SUBPIXELS
-    }
-
-    // The point whose words stand at a place.
-    fn at(words: &[i32], at: usize) -> Point
-        requires at_in_bounds { at + 1 < length words.now }
-        requires pos_value { (beyond (get_or words.now at (pos 0)) ≡ false) × (beyond (get_or words.now (at + 1) (pos 0)) ≡ false) }
-        ensures { (result.x ≡ coordinate_of (get_or words.now at (pos 0))) × (result.y ≡ coordinate_of (get_or words.now (at + 1) (pos 0))) }
-    {
-        let pair = word_reader::pair_at(words, at);
-        let x = pair.first;
-        let y = pair.second;
-        Point {
-            x: Self::coordinate(x),
-            y: Self::coordinate(y),
-        }
+// The point whose words stand at a place.
+fn point_at(words: &[i32], at: usize) -> Point
+    requires at_in_bounds { at + 1 < length words.now }
+    requires pos_value { (beyond (get_or words.now at (pos 0)) ≡ false) × (beyond (get_or words.now (at + 1) (pos 0)) ≡ false) }
+    ensures { (result.x ≡ coordinate_of (get_or words.now at (pos 0))) × (result.y ≡ coordinate_of (get_or words.now (at + 1) (pos 0))) }
+{
+    let pair = word_reader::pair_at(words, at);
+    Point {
+        x: coordinate(pair.first),
+        y: coordinate(pair.second),
     }
 }
 
@@ -66,19 +54,13 @@ fn contour(
     if n == 0 {
         return stored;
     }
-    let end = at + 2 * n;
-    let last = end - 2;
-    let from = Point::at(words, last);
-    let mut x = from.x;
-    let mut y = from.y;
+    let last = at + 2 * (n - 1);
+    let mut from = point_at(words, last);
     let mut count = stored;
-    let mut next = at;
-    while next < end {
-        let to = Point::at(words, next);
-        count = edge::push(floats, edges, count, x, y, to.x, to.y, height);
-        x = to.x;
-        y = to.y;
-        next += 2;
+    for i in 0..n {
+        let to = point_at(words, at + 2 * i);
+        count = edge::push(floats, edges, count, from, to, height);
+        from = to;
     }
     count
 }
@@ -108,14 +90,12 @@ pub fn contours(
 {
     let mut at = from;
     let mut count = 0;
-    let mut remaining = n;
-    while 0 < remaining {
-        let Counted::Count(points) = word_reader::count_at(words, at) else {
+    for _ in 0..n {
+        let Ok(points) = word_reader::count_at(words, at) else {
             return Progress { at, count };
         };
         count = contour(words, at + 1, points, floats, edges, count, height);
         at = at + 1 + 2 * points;
-        remaining -= 1;
     }
     Progress { at, count }
 }

@@ -2,20 +2,12 @@
 // clip/shape.rs up to its radii. Each contract gives the result outright, by a definition of specs/.
 #![tactic(auto)]
 
-ghost use Rattle.std.specs.Prelude.{◌≡◌, ◌<◌, ◌≤◌};
-ghost use Rattle.outline.specs.Outline.{most_points};
-ghost use Rattle.outline.specs.Kept.{points_in};
-ghost use Rattle.samples.specs.Samples.{most_samples};
+ghost use Rattle.std.specs.Prelude.{◌≡◌};
 ghost use Rattle.corner_radii.specs.Around.{point_bounds_of, around_of, sized_half_of, sized_of};
-ghost use Rattle.corner_radii.specs.Radii.{on_side_of, further_of, reach_step_of, reach_of, left_of, snapped_of, radius_of, corner_of};
+ghost use Rattle.corner_radii.specs.Radii.{on_side_of, further_of, reach_step_of, reach_of, level_reach_of, left_of, snapped_of, radius_of, corner_of};
 ghost use Rattle.corner_radii.specs.Mix.{same_of, square_of, round_of, alike_of, cut_of, cut_at_of, mix_of, corner_mix_of};
 
-use geometry::Bounds;
-use outline::MOST_POINTS;
-use samples::MOST_SAMPLES;
-
-// How far off the box an outline's points and radii may be, as a share of its smaller half extent.
-pub const FIT_TOLERANCE: f32 = 0.005;
+use geometry::{Bounds, Position};
 
 // ---- the box around an outline
 
@@ -29,20 +21,13 @@ pub struct Around {
     pub slack: f32,
 }
 
-// The bounds of n points.
-pub fn bounds(xs: &[f32; MOST_SAMPLES], ys: &[f32; MOST_SAMPLES], n: usize) -> Bounds
-    requires { n ≤ most_samples }
-    ensures { result ≡ point_bounds_of (points_in xs.now ys.now n) }
+pub fn bounds(points: &[Position]) -> Bounds
+    ensures { result ≡ point_bounds_of points.now }
 {
-    let mut b = Bounds::none();
-    let mut i: usize = 0;
-    while i < n {
-        b = b.with_point(samples::sample_at(xs, ys, i));
-        i += 1;
-    }
-    b
+    points.iter().fold(Bounds::none(), |b, p| b.with_point(*p))
 }
 
+#[tactic(auto, unfolding(crate::specs::Around::sized_half_of))]
 fn sized_half(half: f32) -> bool
     ensures { result ≡ sized_half_of half }
 {
@@ -50,6 +35,10 @@ fn sized_half(half: f32) -> bool
 }
 
 impl Around {
+    // How far off the box an outline's points and radii may be, as a share of its smaller half extent.
+    pub const FIT_TOLERANCE: f32 = 0.005;
+
+    #[tactic(auto, unfolding(crate::specs::Around::around_of))]
     pub fn of(b: Bounds) -> Self
         ensures { result ≡ around_of b }
     {
@@ -60,10 +49,11 @@ impl Around {
             cy: (b.miny + b.maxy) * 0.5,
             ex,
             ey,
-            slack: FIT_TOLERANCE * float::min(ex, ey),
+            slack: Self::FIT_TOLERANCE * float::min(ex, ey),
         }
     }
 
+    #[tactic(auto, unfolding(crate::specs::Around::sized_of))]
     pub fn sized(self) -> bool
         ensures { result ≡ sized_of self }
     {
@@ -81,13 +71,6 @@ pub struct CornerAxis {
     pub sign: f32,
 }
 
-// How far a straight side reaches from the middle of it.
-#[derive(Clone, Copy)]
-pub enum Far {
-    Reaches(f32),
-    NoSide,
-}
-
 #[derive(Clone, Copy)]
 pub struct Radii {
     pub x: f32,
@@ -95,6 +78,7 @@ pub struct Radii {
 }
 
 // Whether an anchor, `side` off the centre across and `at` along, is on the corner's half of the side.
+#[tactic(auto, unfolding(crate::specs::Radii::on_side_of))]
 fn on_side(across: CornerAxis, along: CornerAxis, slack: f32, side: f32, at: f32) -> bool
     ensures { result ≡ on_side_of across along slack side at }
 {
@@ -104,17 +88,24 @@ fn on_side(across: CornerAxis, along: CornerAxis, slack: f32, side: f32, at: f32
     side * across.sign > 0.0 && at * along.sign >= 0.0
 }
 
-fn further(far: Far, at: f32) -> Far
+// With one anchor more on the side, `at` along it.
+#[tactic(auto, unfolding(crate::specs::Radii::further_of))]
+fn further(far: Option<f32>, at: f32) -> Option<f32>
     ensures { result ≡ further_of far at }
 {
-    match far {
-        Far::Reaches(f) => Far::Reaches(float::max(f, at)),
-        Far::NoSide => Far::Reaches(at),
-    }
+    Some(far.map_or(at, |f| float::max(f, at)))
 }
 
-// With one anchor more, its numbers across and along.
-fn reach_step(across: CornerAxis, along: CornerAxis, slack: f32, far: Far, x: f32, y: f32) -> Far
+// How far a straight side reaches from the middle of it, with one anchor more, its numbers across and along.
+#[tactic(auto, unfolding(crate::specs::Radii::reach_step_of))]
+fn reach_step(
+    across: CornerAxis,
+    along: CornerAxis,
+    slack: f32,
+    far: Option<f32>,
+    x: f32,
+    y: f32,
+) -> Option<f32>
     ensures { result ≡ reach_step_of across along slack far x y }
 {
     let side = x - across.centre;
@@ -125,40 +116,39 @@ fn reach_step(across: CornerAxis, along: CornerAxis, slack: f32, far: Far, x: f3
     far
 }
 
-// How far the side at a corner reaches, by n anchors, their numbers across in xs and along in ys.
-fn reach(
-    xs: &[f32; MOST_POINTS],
-    ys: &[f32; MOST_POINTS],
-    n: usize,
+// How far the side at a corner reaches, by anchors with x across and y along; and with y across and x along.
+fn reach(anchors: &[Position], across: CornerAxis, along: CornerAxis, slack: f32) -> Option<f32>
+    ensures { result ≡ reach_of across along slack anchors.now }
+{
+    anchors.iter().fold(
+        None,
+        |far, p| reach_step(across, along, slack, far, p.x, p.y),
+    )
+}
+
+fn level_reach(
+    anchors: &[Position],
     across: CornerAxis,
     along: CornerAxis,
     slack: f32,
-) -> Far
-    requires { n ≤ most_points }
-    ensures { result ≡ reach_of across along slack (points_in xs.now ys.now n) }
+) -> Option<f32>
+    ensures { result ≡ level_reach_of across along slack anchors.now }
 {
-    let mut far = Far::NoSide;
-    let mut i: usize = 0;
-    while i < n {
-        let x = xs[i];
-        let y = ys[i];
-        far = reach_step(across, along, slack, far, x, y);
-        i += 1;
-    }
-    far
+    anchors.iter().fold(
+        None,
+        |far, p| reach_step(across, along, slack, far, p.y, p.x),
+    )
 }
 
 // What the side leaves of a half extent.
-fn left(far: Far, extent: f32) -> f32
+fn left(far: Option<f32>, extent: f32) -> f32
     ensures { result ≡ left_of far extent }
 {
-    match far {
-        Far::Reaches(f) => extent - f,
-        Far::NoSide => extent,
-    }
+    far.map_or(extent, |f| extent - f)
 }
 
 // A radius that is nearly the half extent is that, and one that is nearly 0 is 0.
+#[tactic(auto, unfolding(crate::specs::Radii::snapped_of))]
 fn snapped(radius: f32, extent: f32, slack: f32) -> f32
     ensures { result ≡ snapped_of radius extent slack }
 {
@@ -171,23 +161,17 @@ fn snapped(radius: f32, extent: f32, slack: f32) -> f32
     radius
 }
 
-fn radius(far: Far, extent: f32, slack: f32) -> f32
+#[tactic(auto, unfolding(crate::specs::Radii::radius_of))]
+fn radius(far: Option<f32>, extent: f32, slack: f32) -> f32
     ensures { result ≡ radius_of far extent slack }
 {
     snapped(float::max(left(far, extent), 0.0), extent, slack)
 }
 
-// The radii of the corner with these signs, by n anchors.
-fn corner(
-    xs: &[f32; MOST_POINTS],
-    ys: &[f32; MOST_POINTS],
-    n: usize,
-    a: Around,
-    sx: f32,
-    sy: f32,
-) -> Radii
-    requires { n ≤ most_points }
-    ensures { result ≡ corner_of a (points_in xs.now ys.now n) sx sy }
+// The radii of the corner with these signs.
+#[tactic(auto, unfolding(crate::specs::Radii::corner_of))]
+fn corner(anchors: &[Position], a: Around, sx: f32, sy: f32) -> Radii
+    ensures { result ≡ corner_of a anchors.now sx sy }
 {
     let x = CornerAxis {
         centre: a.cx,
@@ -199,8 +183,8 @@ fn corner(
         half: a.ey,
         sign: sy,
     };
-    let level = reach(ys, xs, n, y, x, a.slack);
-    let upright = reach(xs, ys, n, x, y, a.slack);
+    let level = level_reach(anchors, y, x, a.slack);
+    let upright = reach(anchors, x, y, a.slack);
     Radii {
         x: radius(level, a.ex, a.slack),
         y: radius(upright, a.ey, a.slack),
@@ -209,26 +193,28 @@ fn corner(
 
 // ---- which corners
 
-// The same corners all round; the two of a side square and the other two the same; or any other mix.
+// The same corners all round; or the two of a side square and the other two the same.
 #[derive(Clone, Copy)]
 pub enum CornerMix {
     Alike(Radii),
     CutAt(usize, Radii),
-    Other,
 }
 
+#[tactic(auto, unfolding(crate::specs::Mix::same_of))]
 fn same(a: Radii, b: Radii, slack: f32) -> bool
     ensures { result ≡ same_of a b slack }
 {
     float::abs(a.x - b.x) <= slack && float::abs(a.y - b.y) <= slack
 }
 
+#[tactic(auto, unfolding(crate::specs::Mix::square_of))]
 fn square(r: Radii) -> bool
     ensures { result ≡ square_of r }
 {
     r.x == 0.0 && r.y == 0.0
 }
 
+#[tactic(auto, unfolding(crate::specs::Mix::round_of))]
 fn round(r: Radii) -> bool
     ensures { result ≡ round_of r }
 {
@@ -250,53 +236,48 @@ fn cut(a: Radii, b: Radii, c: Radii, d: Radii, slack: f32) -> bool
     square(a) && square(b) && round(c) && same(c, d, slack)
 }
 
-// The first side that is cut.
+// The first side that is cut, if one is.
 #[tactic(auto, unfolding(crate::specs::Mix::cut_at_of))]
-fn cut_at(r0: Radii, r1: Radii, r2: Radii, r3: Radii, slack: f32) -> CornerMix
+fn cut_at(r0: Radii, r1: Radii, r2: Radii, r3: Radii, slack: f32) -> Option<CornerMix>
     ensures { result ≡ cut_at_of r0 r1 r2 r3 slack }
 {
     if cut(r0, r1, r2, r3, slack) {
-        return CornerMix::CutAt(0, r2);
+        return Some(CornerMix::CutAt(0, r2));
     }
     if cut(r1, r2, r3, r0, slack) {
-        return CornerMix::CutAt(1, r3);
+        return Some(CornerMix::CutAt(1, r3));
     }
     if cut(r2, r3, r0, r1, slack) {
-        return CornerMix::CutAt(2, r0);
+        return Some(CornerMix::CutAt(2, r0));
     }
     if cut(r3, r0, r1, r2, slack) {
-        return CornerMix::CutAt(3, r1);
+        return Some(CornerMix::CutAt(3, r1));
     }
-    CornerMix::Other
+    None
 }
 
 #[tactic(auto, unfolding(crate::specs::Mix::mix_of))]
-fn mix(r0: Radii, r1: Radii, r2: Radii, r3: Radii, slack: f32) -> CornerMix
+fn mix(r0: Radii, r1: Radii, r2: Radii, r3: Radii, slack: f32) -> Option<CornerMix>
     ensures { result ≡ mix_of r0 r1 r2 r3 slack }
 {
     if !alike(r0, r1, r2, r3, slack) {
         return cut_at(r0, r1, r2, r3, slack);
     }
     if square(r0) || round(r0) {
-        return CornerMix::Alike(r0);
+        return Some(CornerMix::Alike(r0));
     }
-    CornerMix::Other
+    None
 }
 
-// The corners of the box around an outline, by its n anchors.
+// The corners of the box around an outline, by its anchors; none where they are any other mix.
 // Ruled out: the two axes exchanged; a cut where one corner is round, or three.
-pub fn corner_mix(
-    xs: &[f32; MOST_POINTS],
-    ys: &[f32; MOST_POINTS],
-    n: usize,
-    a: Around,
-) -> CornerMix
-    requires { n ≤ most_points }
-    ensures { result ≡ corner_mix_of a (points_in xs.now ys.now n) }
+#[tactic(auto, unfolding(crate::specs::Mix::corner_mix_of))]
+pub fn corner_mix(anchors: &[Position], a: Around) -> Option<CornerMix>
+    ensures { result ≡ corner_mix_of a anchors.now }
 {
-    let r0 = corner(xs, ys, n, a, 1.0, 1.0);
-    let r1 = corner(xs, ys, n, a, -1.0, 1.0);
-    let r2 = corner(xs, ys, n, a, -1.0, -1.0);
-    let r3 = corner(xs, ys, n, a, 1.0, -1.0);
+    let r0 = corner(anchors, a, 1.0, 1.0);
+    let r1 = corner(anchors, a, -1.0, 1.0);
+    let r2 = corner(anchors, a, -1.0, -1.0);
+    let r3 = corner(anchors, a, 1.0, -1.0);
     mix(r0, r1, r2, r3, a.slack)
 }

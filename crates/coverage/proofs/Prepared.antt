@@ -11,7 +11,7 @@ use borrow.Rule.Slice.PartMut.{mid_of, post_of, put_mid, take_put, same_len_mid}
 use Rattle.word_list.specs.Words.{Group}
 use Rattle.cells.specs.declared.Size.{Size}
 use Rattle.cells.specs.Rows.{rows_changed}
-use Rattle.cells.proofs.Cleared.{take_alike}
+use Rattle.std.proofs.lemmas.List.{take-replicate}
 use Rattle.cells.proofs.Rows.{changes_alike}
 use Rattle.accumulation.specs.Marks.{mark_words}
 use Rattle.sweep.specs.Bytes.{add_bytes}
@@ -73,7 +73,7 @@ module _ {mask : List ℕ} {fs : List Float} {cs : List ℕ} {size : Size} {poin
     front =
         let a = counters_room in
         take_put words (words + size.height - words) cs hs (omega arith) ∙ sym (take-take words (words + size.height) cs (omega arith))
-        ∙ ap (take words) zeros ∙ take_alike words size.height 0
+        ∙ ap (take words) zeros ∙ take-replicate words (words + size.height) 0 (omega arith)
 
     head_at : (r : ℕ) → r < size.height → get_or counters (words + r) 0 ≡ get_or hs r 0
     head_at r h =

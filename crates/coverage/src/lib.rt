@@ -105,8 +105,7 @@ fn draw_rows(
     let end = words + height;
     let mut from = 0;
     let mut kept = 0;
-    let mut row = 0;
-    while row < height {
+    for row in 0..height {
         let n = active_edges::join(floats, &mut counters[words..end], l, kept, row);
         let to = from + width;
         let at = 2 * row;
@@ -130,7 +129,6 @@ fn draw_rows(
         ink[at + 1] = new.end;
         kept = done.below;
         from = to;
-        row += 1;
     }
 }
 

@@ -1,6 +1,6 @@
 -- A box as a draw takes it, as shape.rs computes it. `⊕ ⊖ ⊗ ⊘` are binary32's operations, and each rounds once.
 -- Definitions only.
-use Rattle.std.specs.Prelude.{Bool, cond, not, ◌&&◌, ◌||◌, Float}
+use Rattle.std.specs.Prelude.{Bool, cond, not, ◌&&◌, ◌||◌, Float, Option, Some, None}
 use Rattle.std.specs.Float.Ieee.{lt, le}
 use Rattle.std.specs.Float.Ieee.Scale.{finite}
 use Rattle.float.specs.Ops.{◌⊕◌, ◌⊖◌, ◌⊗◌, ◌⊘◌, f0}
@@ -10,8 +10,6 @@ use Rattle.geometry.specs.declared.Position.{Position}
 use Rattle.geometry.specs.Frame.{inverse_of}
 use Rattle.shape.specs.declared.RoundedBox.{RoundedBox}
 use Rattle.clip_coverage.specs.declared.ClipCoverage.{ClipCoverage}
-use Rattle.covering.specs.declared.MaybeCoverage.{MaybeCoverage}
-use Rattle.covering.specs.declared.MaybeCoverage.TheVariants as coverage
 use Rattle.covering.specs.Limits.{min_axis_spread, min_half_extent, square_corner_below}
 
 -- ---- RoundedBox::coverage
@@ -61,12 +59,12 @@ coverage_by b i per =
       strays = f0;
     }
 
-abbrev pub coverage_in : RoundedBox → Transform2D → Position → MaybeCoverage
+abbrev pub coverage_in : RoundedBox → Transform2D → Position → Option ClipCoverage
 coverage_in b i per =
-    cond (thin_of (b.ex ⊘ per.x) (b.ey ⊘ per.y)) coverage.NoCoverage (coverage.Coverage (coverage_by b i per))
+    cond (thin_of (b.ex ⊘ per.x) (b.ey ⊘ per.y)) None (Some (coverage_by b i per))
 
 -- RoundedBox::coverage
-unfoldable pub coverage_of : RoundedBox → Float → MaybeCoverage
+unfoldable pub coverage_of : RoundedBox → Float → Option ClipCoverage
 coverage_of b fringe =
     let i = inverse_of b.frame in
-    cond (uncovered_of b.frame fringe) coverage.NoCoverage (coverage_in b i (per_fringe_of i fringe))
+    cond (uncovered_of b.frame fringe) None (coverage_in b i (per_fringe_of i fringe))

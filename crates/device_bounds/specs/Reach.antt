@@ -1,6 +1,6 @@
 -- The device bounds of a coverage, as shape.rs computes them. `⊕ ⊖ ⊗ ⊘` are binary32's operations, and each rounds
 -- once. Definitions only.
-use Rattle.std.specs.Prelude.{cond, Float}
+use Rattle.std.specs.Prelude.{cond, Float, Option, Some, None}
 use Rattle.std.specs.Float.{binary32}
 use Rattle.std.specs.Float.Ieee.{of_bits, eq}
 use Rattle.float.specs.Ops.{◌⊕◌, ◌⊖◌, ◌⊗◌, ◌⊘◌, f0}
@@ -8,8 +8,6 @@ use Rattle.float.specs.Simple.{abs_of}
 use Rattle.geometry.specs.declared.Position.{Position}
 use Rattle.geometry.specs.declared.Bounds.{Bounds}
 use Rattle.clip_coverage.specs.declared.ClipCoverage.{ClipCoverage}
-use Rattle.device_bounds.specs.declared.MaybeBounds.{MaybeBounds}
-use Rattle.device_bounds.specs.declared.MaybeBounds.TheVariants as maybe
 
 -- ---- ClipCoverage::bounds
 
@@ -38,10 +36,10 @@ around_of centre half =
     record { minx = centre.x ⊖ half.x; miny = centre.y ⊖ half.y; maxx = centre.x ⊕ half.x; maxy = centre.y ⊕ half.y }
 
 -- `determinant == 0.0` holds of a zero of either sign, and of no NaN
-unfoldable pub bounds_of : ClipCoverage → Float → MaybeBounds
+unfoldable pub bounds_of : ClipCoverage → Float → Option Bounds
 bounds_of k margin =
     let determinant = linear_determinant_of k in
-    cond (eq determinant f0) maybe.Everywhere (maybe.Bounds (around_of (centre_of k determinant) (half_of k determinant margin)))
+    cond (eq determinant f0) None (Some (around_of (centre_of k determinant) (half_of k determinant margin)))
 
 -- ---- ClipCoverage::reach. Document 01: 'A coverage handed in may hold any floats and is never refused'
 
@@ -49,5 +47,5 @@ bounds_of k margin =
 abbrev pub ramp : Float
 ramp = of_bits binary32 0x3f00_0000
 
-abbrev pub reach_of : ClipCoverage → MaybeBounds
+abbrev pub reach_of : ClipCoverage → Option Bounds
 reach_of k = bounds_of k ramp

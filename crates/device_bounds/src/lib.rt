@@ -12,21 +12,10 @@ ghost use Rattle.device_bounds.specs.Holds.{outside_of, square_corners_of, middl
 use clip_coverage::ClipCoverage;
 use geometry::{Bounds, Position};
 
-// The Rust's Option<Bounds>: none where the coverage is one everywhere.
-#[derive(Clone, Copy)]
-pub enum MaybeBounds {
-    Bounds(Bounds),
-    Everywhere,
-}
-
 // ---- reach
 
-impl MaybeBounds {
-    // How far past a side, in fringe widths, its ramp ends.
-    const RAMP: f32 = 0.5;
-}
-
 // The determinant of the linear part.
+#[tactic(auto, unfolding(crate::specs::Reach::linear_determinant_of))]
 fn linear_determinant(k: ClipCoverage) -> f32
     ensures { result ≡ linear_determinant_of k }
 {
@@ -34,6 +23,7 @@ fn linear_determinant(k: ClipCoverage) -> f32
 }
 
 // The box's half sides, each `margin` fringe widths further out, taken back to device pixels.
+#[tactic(auto, unfolding(crate::specs::Reach::half_of))]
 fn half(k: ClipCoverage, determinant: f32, margin: f32) -> Position
     ensures { result ≡ half_of k determinant margin }
 {
@@ -47,6 +37,7 @@ fn half(k: ClipCoverage, determinant: f32, margin: f32) -> Position
 }
 
 // The box's centre in device pixels.
+#[tactic(auto, unfolding(crate::specs::Reach::centre_of))]
 fn centre(k: ClipCoverage, determinant: f32) -> Position
     ensures { result ≡ centre_of k determinant }
 {
@@ -56,6 +47,7 @@ fn centre(k: ClipCoverage, determinant: f32) -> Position
     }
 }
 
+#[tactic(auto, unfolding(crate::specs::Reach::around_of))]
 fn around(centre: Position, half: Position) -> Bounds
     ensures { result ≡ around_of centre half }
 {
@@ -68,25 +60,26 @@ fn around(centre: Position, half: Position) -> Bounds
 }
 
 // The device bounds of the box with each side `margin` fringe widths further out.
-fn bounds(k: ClipCoverage, margin: f32) -> MaybeBounds
+#[tactic(auto, unfolding(crate::specs::Reach::bounds_of))]
+fn bounds(k: ClipCoverage, margin: f32) -> Option<Bounds>
     ensures { result ≡ bounds_of k margin }
 {
     let determinant = linear_determinant(k);
     if determinant == 0.0 {
-        return MaybeBounds::Everywhere;
+        return None;
     }
     let half = half(k, determinant, margin);
     let centre = centre(k, determinant);
-    MaybeBounds::Bounds(around(centre, half))
+    Some(around(centre, half))
 }
 
 // The device rectangle outside which the coverage is zero, the box out to where its sides' ramps end,
 // or none for a coverage of one everywhere.
 // Ruled out: the box's own bounds, without its ramps; bounds where the determinant is -0.
-pub fn reach(k: ClipCoverage) -> MaybeBounds
+pub fn reach(k: ClipCoverage) -> Option<Bounds>
     ensures { result ≡ reach_of k }
 {
-    bounds(k, MaybeBounds::RAMP)
+    bounds(k, ClipCoverage::RAMP)
 }
 
 // ---- holds
@@ -103,12 +96,14 @@ fn outside(k: ClipCoverage, p: Position, straddle: f32) -> f32
     distance
 }
 
+#[tactic(auto, unfolding(crate::specs::Holds::square_corners_of))]
 fn square_corners(k: ClipCoverage) -> bool
     ensures { result ≡ square_corners_of k }
 {
     k.rx == 0.0 && k.ry == 0.0
 }
 
+#[tactic(auto, unfolding(crate::specs::Holds::middle_of))]
 fn middle(b: Bounds) -> Position
     ensures { result ≡ middle_of b }
 {
@@ -118,6 +113,7 @@ fn middle(b: Bounds) -> Position
     }
 }
 
+#[tactic(auto, unfolding(crate::specs::Holds::half_sides_of))]
 fn half_sides(b: Bounds) -> Position
     ensures { result ≡ half_sides_of b }
 {
@@ -128,6 +124,7 @@ fn half_sides(b: Bounds) -> Position
 }
 
 // Whether a rectangle lies between two parallel sides, given by their row, offset and half extent.
+#[tactic(auto, unfolding(crate::specs::Holds::axis_holds_of))]
 fn axis_holds(a: f32, b: f32, offset: f32, extent: f32, centre: Position, half: Position) -> bool
     ensures { result ≡ axis_holds_of a b offset extent centre half }
 {
@@ -136,6 +133,7 @@ fn axis_holds(a: f32, b: f32, offset: f32, extent: f32, centre: Position, half: 
     far - extent <= ClipCoverage::DRAW_SLACK
 }
 
+#[tactic(auto, unfolding(crate::specs::Holds::sides_hold_of))]
 fn sides_hold(k: ClipCoverage, b: Bounds) -> bool
     ensures { result ≡ sides_hold_of k b }
 {
@@ -145,6 +143,7 @@ fn sides_hold(k: ClipCoverage, b: Bounds) -> bool
         && axis_holds(k.lc, k.ld, k.oy, k.ey, centre, half)
 }
 
+#[tactic(auto, unfolding(crate::specs::Holds::point_holds_of))]
 fn point_holds(k: ClipCoverage, x: f32, y: f32) -> bool
     ensures { result ≡ point_holds_of k x y }
 {
@@ -163,6 +162,7 @@ fn corners_hold(k: ClipCoverage, b: Bounds) -> bool
 
 // Whether the clip as it was given holds a rectangle of device pixels whole, within DRAW_SLACK.
 // Ruled out: a rectangle's half sides taken by their size; the strays left out at a round corner.
+#[tactic(auto, unfolding(crate::specs::Holds::holds_of))]
 pub fn holds(k: ClipCoverage, bounds: Bounds) -> bool
     ensures { result ≡ holds_of k bounds }
 {

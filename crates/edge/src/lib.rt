@@ -16,6 +16,13 @@ ghost use Rattle.edge.specs.Edges.{sloped_of, edge_between, start_row, at_of};
 ghost use Rattle.edge.specs.Floats.{edge_at, put_edge, Pushed};
 ghost use Rattle.edge.specs.Table.{nth, Placed, InTable, NextsChanged};
 
+// A point of a contour, in cells.
+#[derive(Clone, Copy)]
+pub struct Point {
+    pub x: f32,
+    pub y: f32,
+}
+
 // An edge from its top to its bottom: x and y at the top, the y at its bottom, the change in x for
 // each unit of y, and 1 if it was drawn downwards, -1 if upwards.
 #[derive(Clone, Copy)]
@@ -71,30 +78,28 @@ pub fn store(floats: &mut [f32], at: usize, e: Edge)
 
 // ---- edges of contours
 
-// Stores the edge down from (xa, ya) to (xb, yb), unless it lies above the mask or below it.
+// Stores the edge down from one point to another, unless it lies above the mask or below it.
 fn push_down(
     floats: &mut [f32],
     edges: usize,
     count: usize,
-    xa: f32,
-    ya: f32,
-    xb: f32,
-    yb: f32,
+    top: Point,
+    bottom: Point,
     down: f32,
     height: usize,
 ) -> usize
     requires count_in_bounds { edges + 5 * count + 5 ≤ length floats.old }
     requires height_bound { height ≤ 4096 }
-    ensures { Pushed floats.old floats.new edges count result 1 (sloped_of height xa ya xb yb down) }
+    ensures { Pushed floats.old floats.new edges count result 1 (sloped_of height top.x top.y bottom.x bottom.y down) }
 {
-    if yb <= 0.0 || ya >= whole::from_whole(height) {
+    if bottom.y <= 0.0 || top.y >= whole::from_whole(height) {
         return count;
     }
     let e = Edge {
-        x: xa,
-        y: ya,
-        bottom: yb,
-        slope: (xb - xa) / (yb - ya),
+        x: top.x,
+        y: top.y,
+        bottom: bottom.y,
+        slope: (bottom.x - top.x) / (bottom.y - top.y),
         down,
     };
     store(floats, edges + 5 * count, e);
@@ -107,23 +112,21 @@ pub fn push(
     floats: &mut [f32],
     edges: usize,
     count: usize,
-    x0: f32,
-    y0: f32,
-    x1: f32,
-    y1: f32,
+    from: Point,
+    to: Point,
     height: usize,
 ) -> usize
     requires count_in_bounds { edges + 5 * count + 5 ≤ length floats.old }
     requires height_bound { height ≤ 4096 }
-    ensures { Pushed floats.old floats.new edges count result 1 (edge_between height x0 y0 x1 y1) }
+    ensures { Pushed floats.old floats.new edges count result 1 (edge_between height from.x from.y to.x to.y) }
 {
-    if y0 == y1 {
+    if from.y == to.y {
         return count;
     }
-    if y0 < y1 {
-        return push_down(floats, edges, count, x0, y0, x1, y1, 1.0, height);
+    if from.y < to.y {
+        return push_down(floats, edges, count, from, to, 1.0, height);
     }
-    push_down(floats, edges, count, x1, y1, x0, y0, -1.0, height)
+    push_down(floats, edges, count, to, from, -1.0, height)
 }
 
 // ---- the edge table
@@ -155,9 +158,7 @@ pub fn table(floats: &mut [f32], heads: &mut [u64], l: Layout)
     ensures in_table { InTable floats.new heads.new l 0 }
     ensures nexts_changed { NextsChanged floats.old floats.new l }
 {
-    let mut i = l.count;
-    while 0 < i {
-        i -= 1;
+    for i in (0..l.count).rev() {
         let e = load(floats, l.width + 5 * i);
         link(floats, heads, l.nexts, i, start_row(e));
     }

@@ -1,5 +1,6 @@
 -- Long lists of boxes (specs/Touches.antt, SheetOfFrames): what boxes alike, and one behind them, are answered, by their
 -- number. Assumes nothing.
+use Rattle.std.specs.Prelude.{Some, Ok, Err}
 use Prim.Native.Nat.{ℕ, zero, suc, ◌+◌, ◌<◌, ◌≤◌}
 use mathlib.Core.Path.{◌≡◌, refl, ap}
 use mathlib.Core.Bool.{true, false}
@@ -11,12 +12,10 @@ use borrow.Author.Tests.{le-ltb}
 use Rattle.float.specs.Ops.{f0, f1, f_minus_1}
 use Rattle.fault.specs.declared.Fault.{Fault}
 use Rattle.fault.specs.declared.Fault.TheVariants.{TooManyBoxes}
-use Rattle.fault.specs.declared.Check.TheVariants as check
 use Rattle.shape.specs.declared.RoundedBox.{RoundedBox}
 use Rattle.shape.specs.Checks.{box_check_of}
 use Rattle.covering.specs.Touches.{touches_of}
 use Rattle.boxes.specs.Checks.{most_boxes, boxes_check_of}
-use Rattle.touch.specs.declared.TouchAnswer.TheVariants.{Frame, Refused}
 use Rattle.touch.specs.Touch.{first_touched_from}
 use Rattle.touch.proofs.Laws.{twelve_exactly_when}
 use Rattle.examples.specs.Starred.{f4}
@@ -29,11 +28,11 @@ length_behind n b last = rw (length-append (replicate n b) (last ∷ []), length
 pub few_behind : (n : ℕ) (b last : RoundedBox) → n < most_boxes → length (behind n b last) ≤ most_boxes
 few_behind n b last l = rw (length_behind n b last) (omega arith)
 
-too_long : (bs : List RoundedBox) {n : ℕ} → length bs ≡ n → 4096 < n → Names bs f1 (Refused TooManyBoxes)
+too_long : (bs : List RoundedBox) {n : ℕ} → length bs ≡ n → 4096 < n → Names bs f1 (Err TooManyBoxes)
 too_long bs e l = twelve_exactly_when.always bs f1 (point f0 f0) (rw e l)
 
 -- boxes that are not refused leave the check to those behind them
-module _ (b : RoundedBox) (passes : box_check_of b ≡ check.Pass) where
+module _ (b : RoundedBox) (passes : box_check_of b ≡ Ok tt) where
   checked : (n : ℕ) (bs : List RoundedBox) → boxes_check_of (replicate n b ++ bs) ≡ boxes_check_of bs
   checked zero bs = refl
   checked (suc n) bs = rw passes (checked n bs)
@@ -44,8 +43,8 @@ module _ (b : RoundedBox) (passes : box_check_of b ≡ check.Pass) where
   passed missed zero k place bs e = let same : k ≡ place = omega arith in rw same
   passed missed (suc n) k place bs e = rw missed (passed missed n (suc k) place bs (omega arith))
 
-  named : touches_of b f1 (point f0 f0) ≡ false → (last : RoundedBox) → box_check_of last ≡ check.Pass
-      → touches_of last f1 (point f0 f0) ≡ true → (n : ℕ) → n < most_boxes → Names (behind n b last) f1 (Frame n)
+  named : touches_of b f1 (point f0 f0) ≡ false → (last : RoundedBox) → box_check_of last ≡ Ok tt
+      → touches_of last f1 (point f0 f0) ≡ true → (n : ℕ) → n < most_boxes → Names (behind n b last) f1 (Ok (Some n))
   named missed last good touched n l =
       rw (
         le-ltb _ _ (few_behind n b last l),
@@ -57,8 +56,8 @@ module _ (b : RoundedBox) (passes : box_check_of b ≡ check.Pass) where
         touched,
       )
 
-  refused : (last : RoundedBox) (f : Fault) → box_check_of last ≡ check.Refused f → (n : ℕ) → n < most_boxes
-      → Names (behind n b last) f1 (Refused f)
+  refused : (last : RoundedBox) (f : Fault) → box_check_of last ≡ Err f → (n : ℕ) → n < most_boxes
+      → Names (behind n b last) f1 (Err f)
   refused last f bad n l = rw (le-ltb _ _ (few_behind n b last l), checked n (last ∷ []), bad)
 
 pub sheet_of_frames : SheetOfFrames

@@ -1,13 +1,10 @@
 -- Document 02, change 5: what the calls that fit an outline answer to a few outlines with curves. The answers are
 -- femtovg's, with the arctangent that stands in on both sides. Definitions only; proofs/Curved.antt computes them.
-use Rattle.std.specs.Prelude.{◌≡◌, List, [], ◌∷◌, ℕ, Float}
+use Rattle.std.specs.Prelude.{◌≡◌, List, [], ◌∷◌, ℕ, Float, Some, None, Ok}
 use Rattle.std.specs.Float.Ieee.{neg, of_bits}
 use Rattle.std.specs.Float.{binary32}
 use Rattle.float.specs.Ops.{f0, f1, f2, f_minus_1}
 use Rattle.shape.specs.declared.RoundedBox.{RoundedBox}
-use Rattle.shape.specs.declared.BoxAnswer.TheVariants as box
-use Rattle.fit.specs.declared.OutlineAnswer.TheVariants as outline
-use Rattle.fit.specs.declared.CutAnswer.TheVariants as cut
 use Rattle.fit.specs.Calls.{fit_call, fit_outline_call, fit_with_cut_call}
 use Rattle.examples.specs.Starred.{f4}
 
@@ -88,11 +85,13 @@ corner_curve =
     beside_minus_2 ∷ f_minus_1 ∷ beside_minus_2 ∷ f_minus_1 ∷ f_minus_2 ∷ f_minus_1 ∷ f_minus_2 ∷ f_minus_1 ∷ f2 ∷ f_minus_1 ∷ f2 ∷ f1 ∷ f_minus_2 ∷ f1 ∷ []
 
 pub record CurvesFit : Type 0 where
-  pub circle_fits : fit_with_cut_call circle_verbs circle ≡ cut.Whole (rounded_at f0 f0 f1 f1 f1) circle_strays
+  pub circle_fits : fit_with_cut_call circle_verbs circle
+      ≡ Ok (Some (record { shape = rounded_at f0 f0 f1 f1 f1; strays = circle_strays; cut = None }))
   -- the box runs past the square side, of high y, by twice its radius; only `fit_with_cut` answers it
-  pub tab_fits : fit_with_cut_call tab_verbs tab ≡ cut.Cut (rounded_at f4 f3 f4 f3 f1) tab_strays (rounded_at f4 f2 f4 f2 f0)
-  pub tab_outline : fit_outline_call tab_verbs tab ≡ outline.NoBox
-  pub tab_alone : fit_call tab_verbs tab ≡ box.NoBox
-  pub rect_fits : fit_outline_call rect_verbs rect ≡ outline.Outline (rounded_at f2 f1 f2 f1 f0) f0
+  pub tab_fits : fit_with_cut_call tab_verbs tab
+      ≡ Ok (Some (record { shape = rounded_at f4 f3 f4 f3 f1; strays = tab_strays; cut = Some (rounded_at f4 f2 f4 f2 f0) }))
+  pub tab_outline : fit_outline_call tab_verbs tab ≡ Ok None
+  pub tab_alone : fit_call tab_verbs tab ≡ Ok None
+  pub rect_fits : fit_outline_call rect_verbs rect ≡ Ok (Some (rounded_at f2 f1 f2 f1 f0, f0))
   -- the arctangent jumps where both sizes are equal: a step back of 0.0004
-  pub corner_does_not : fit_call rect_verbs corner_curve ≡ box.NoBox
+  pub corner_does_not : fit_call rect_verbs corner_curve ≡ Ok None

@@ -1,15 +1,12 @@
 -- Document 02, change 9: which columns of a row have ink, worked out. Definitions only; proofs/Inked.antt computes them.
-use Rattle.std.specs.Prelude.{◌≡◌, List, [], ◌∷◌, ◌++◌, ℕ, ℤ, pos, negsuc, replicate, Float}
+use Rattle.std.specs.Prelude.{◌≡◌, List, [], ◌∷◌, ◌++◌, ℕ, ℤ, pos, replicate, Float, Ok, Err}
 use Rattle.float.specs.Ops.{f1}
 use Rattle.fault.specs.declared.Fault.{Fault}
 use Rattle.fault.specs.declared.Fault.TheVariants.{MaskTooLarge, BufferTooShort, CornerOutOfRange}
 use Rattle.cells.specs.declared.Size.{Size}
-use Rattle.ink.specs.declared.Stretch.{Stretch}
 use Rattle.ink.specs.Ink.{ink_of, ink_after}
 use Rattle.ink.specs.Lent.{lent}
 use Rattle.laying.specs.Laying.{laying}
-use Rattle.mask.specs.declared.Outcome.{Outcome}
-use Rattle.mask.specs.declared.Outcome.TheVariants.{Done, Refused}
 use Rattle.mask.specs.Calls.{Drawing, drawing, draw_answer, mask_after_drawing, lay_answer, mask_after_laying, lay_placed_answer, ink_after_call}
 use Rattle.examples.specs.Starred.{row, past, floats, counters, rectangle, columns}
 use Rattle.examples.specs.Placed.{at, over, masks_at}
@@ -33,20 +30,20 @@ DrawnInk width words first end =
     let d = drawing (row width) words scratch counters in
     let mask : List ℕ = replicate width 9 in
     let ink : List ℕ = 5 ∷ 6 ∷ 7 ∷ [] in
-    ink_after_call (draw_answer d (lent mask ink)) (row width) (mask_after_drawing Done d mask) ink ≡ first ∷ end ∷ 7 ∷ []
+    ink_after_call (draw_answer d (lent mask ink)) (row width) (mask_after_drawing (Ok tt) d mask) ink ≡ first ∷ end ∷ 7 ∷ []
 
 -- of a laying-on of two rows of two cells by a mask of one row of two
 abbrev pub LaidInk : List ℕ → List ℕ → List ℕ → Type 0
 LaidInk mask other ink =
     let l = laying (sized 2 2) (row 2) (columns (pos 0)) in
     let held : List ℕ = 5 ∷ 5 ∷ 5 ∷ 5 ∷ 7 ∷ [] in
-    ink_after_call (lay_answer l (lent mask held) 2) (sized 2 2) (mask_after_laying Done l mask other) held ≡ ink ++ (7 ∷ [])
+    ink_after_call (lay_answer l (lent mask held) 2) (sized 2 2) (mask_after_laying (Ok tt) l mask other) held ≡ ink ++ (7 ∷ [])
 
 -- ---- refusals
 
 -- a drawing on a mask two cells wide and one high, with so many numbers lent for its ink
 abbrev pub DrawingRefused : Drawing → ℕ → Fault → Type 0
-DrawingRefused d ink f = draw_answer d (record { mask = 2; ink = ink }) ≡ Refused f
+DrawingRefused d ink f = draw_answer d (record { mask = 2; ink = ink }) ≡ Err f
 
 abbrev pub small : Drawing
 small = drawing (row 2) [] floats counters
@@ -82,10 +79,10 @@ pub record InkShown : Type 0 where
   -- laying on: a cell that becomes 0, and a row that meets none
   pub laid : LaidInk (255 ∷ 1 ∷ 255 ∷ 255 ∷ []) (255 ∷ 127 ∷ []) (0 ∷ 1 ∷ 0 ∷ 0 ∷ [])
   -- 'Too little memory for it is number 4, with the mask': one number too few, and enough; before the list and scratch
-  pub one_short : DrawingRefused small 1 BufferTooShort × (draw_answer small (record { mask = 2; ink = 2 }) ≡ Done)
+  pub one_short : DrawingRefused small 1 BufferTooShort × (draw_answer small (record { mask = 2; ink = 2 }) ≡ Ok tt)
   pub before_list : DrawingRefused ends_early 1 BufferTooShort
   pub before_scratch : DrawingRefused no_scratch 1 BufferTooShort × DrawingRefused no_scratch 2 BufferTooShort
   -- and behind 3, and by corners behind 16
   pub three_first : DrawingRefused wide 0 MaskTooLarge
-  pub sixteen_first : lay_placed_answer (masks_at (at over (pos 0)) (at (pos 0) (pos 0))) (record { mask = 3; ink = 1 }) 2 ≡ Refused CornerOutOfRange
-  pub laid_short : lay_placed_answer (masks_at (at (pos 0) (pos 0)) (at (pos 0) (pos 0))) (record { mask = 3; ink = 1 }) 2 ≡ Refused BufferTooShort
+  pub sixteen_first : lay_placed_answer (masks_at (at over (pos 0)) (at (pos 0) (pos 0))) (record { mask = 3; ink = 1 }) 2 ≡ Err CornerOutOfRange
+  pub laid_short : lay_placed_answer (masks_at (at (pos 0) (pos 0)) (at (pos 0) (pos 0))) (record { mask = 3; ink = 1 }) 2 ≡ Err BufferTooShort

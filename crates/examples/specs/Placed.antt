@@ -1,12 +1,10 @@
 -- Document 02, change 8: laying on by corners, of 10 20 30 with 255 255, as document 01's starred examples by offsets.
 -- Definitions only; proofs/Placed.antt computes them.
-use Rattle.std.specs.Prelude.{◌≡◌, List, [], ◌∷◌, ◌++◌, ℕ, ℤ, pos, negsuc}
+use Rattle.std.specs.Prelude.{◌≡◌, List, [], ◌∷◌, ◌++◌, ℕ, ℤ, pos, negsuc, Ok, Err}
 use Rattle.fault.specs.declared.Fault.{Fault}
 use Rattle.fault.specs.declared.Fault.TheVariants.{MaskTooLarge, BufferTooShort, CornerOutOfRange}
 use Rattle.cells.specs.declared.Corner.{Corner}
 use Rattle.laying.specs.Placed.{Placed, placed, by_offset}
-use Rattle.mask.specs.declared.Outcome.{Outcome}
-use Rattle.mask.specs.declared.Outcome.TheVariants.{Done, Refused}
 use Rattle.ink.specs.Lent.{lent}
 use Rattle.mask.specs.Calls.{lay_placed_answer, mask_after_laying}
 use Rattle.examples.specs.Starred.{row, past, ink}
@@ -26,11 +24,11 @@ other = 255 ∷ 255 ∷ past
 
 -- done, with these cells
 abbrev pub Lays : Corner → Corner → List ℕ → Type 0
-Lays own others cells = (lay_placed_answer (masks_at own others) (lent mask ink) 3 ≡ Done) × (mask_after_laying Done (by_offset (masks_at own others)) mask other ≡ cells ++ past)
+Lays own others cells = (lay_placed_answer (masks_at own others) (lent mask ink) 3 ≡ Ok tt) × (mask_after_laying (Ok tt) (by_offset (masks_at own others)) mask other ≡ cells ++ past)
 
 -- refused, where buffers of so many bytes are lent
 abbrev pub Refuses : Placed → ℕ → ℕ → Fault → Type 0
-Refuses p n m f = lay_placed_answer p (record { mask = n; ink = 2 }) m ≡ Refused f
+Refuses p n m f = lay_placed_answer p (record { mask = n; ink = 2 }) m ≡ Err f
 
 -- with 16, where enough is lent
 abbrev pub TooFar : Corner → Corner → Type 0

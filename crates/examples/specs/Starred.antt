@@ -1,6 +1,7 @@
 -- Document 01, 'Examples, twelve of them starred': 'Starred ones are proved of the definitions, as one table under a
 -- common theorem'. Definitions only; proofs/Shown.antt computes them.
-use Rattle.std.specs.Prelude.{◌≡◌, List, [], ◌∷◌, ◌++◌, ℕ, ℤ, pos, negsuc, length, replicate, Float}
+use Rattle.shape.specs.declared.RoundedBox.{RoundedBox}
+use Rattle.std.specs.Prelude.{◌≡◌, List, [], ◌∷◌, ◌++◌, ℕ, ℤ, pos, negsuc, length, replicate, Float, Option, Some, None, Result, Ok}
 use Rattle.std.specs.Float.{binary32}
 use Rattle.std.specs.Float.Ieee.{of_bits}
 use Rattle.float.specs.Ops.{f0, f1, f2}
@@ -9,9 +10,7 @@ use Rattle.laying.specs.declared.Offset.{Offset}
 use Rattle.laying.specs.Laying.{Laying, laying}
 use Rattle.ink.specs.Lent.{lent}
 use Rattle.mask.specs.Calls.{Drawing, drawing, draw_answer, mask_after_drawing, floats_after_drawing, counters_after_drawing, lay_answer, mask_after_laying}
-use Rattle.mask.specs.declared.Outcome.TheVariants.{Done}
-use Rattle.shape.specs.declared.BoxAnswer.{BoxAnswer}
-use Rattle.shape.specs.declared.BoxAnswer.TheVariants as box
+use Rattle.fault.specs.declared.Fault.{Fault}
 use Rattle.fit.specs.Calls.{fit_call}
 
 -- a call that document 01 gives, and what it says of it: the cells that a drawing or a laying-on leaves, or the
@@ -19,7 +18,7 @@ use Rattle.fit.specs.Calls.{fit_call}
 pub data Example : Type 0 where
   draws : (words : List ℤ) (cells : List ℕ) → Example
   lays : (cells : List ℕ) (other : List ℕ) (offset : Offset) (after : List ℕ) → Example
-  fits : (verbs : List ℕ) (positions : List Float) (answer : BoxAnswer) → Example
+  fits : (verbs : List ℕ) (positions : List Float) (answer : Result (Option RoundedBox) Fault) → Example
 
 -- ---- what is lent: one byte more than the mask needs, one number more than its ink, and scratch that holds rubbish
 
@@ -46,13 +45,13 @@ ink = 5 ∷ 6 ∷ 7 ∷ []
 
 abbrev pub ShownDrawing : Drawing → List ℕ → Type 0
 ShownDrawing d cells =
-    (draw_answer d (lent mask ink) ≡ Done) × (mask_after_drawing (draw_answer d (lent mask ink)) d mask ≡ cells ++ past)
+    (draw_answer d (lent mask ink) ≡ Ok tt) × (mask_after_drawing (draw_answer d (lent mask ink)) d mask ≡ cells ++ past)
     × (floats_after_drawing (draw_answer d (lent mask ink)) floats ≡ replicate (length floats) f0)
     × (counters_after_drawing (draw_answer d (lent mask ink)) counters ≡ replicate (length counters) 0)
 
 abbrev pub ShownLaying : Laying → List ℕ → List ℕ → List ℕ → Type 0
 ShownLaying l cells other after =
-    (lay_answer l (lent cells ink) (length other) ≡ Done) × (mask_after_laying (lay_answer l (lent cells ink) (length other)) l cells other ≡ after)
+    (lay_answer l (lent cells ink) (length other) ≡ Ok tt) × (mask_after_laying (lay_answer l (lent cells ink) (length other)) l cells other ≡ after)
 
 abbrev pub Shown : Example → Type 0
 Shown (draws words cells) = ShownDrawing (drawing (row 2) words floats counters) cells
@@ -93,9 +92,9 @@ starred =
     ∷ lays (10 ∷ 20 ∷ 30 ∷ []) (255 ∷ 255 ∷ []) (columns (negsuc 0)) (0 ∷ 20 ∷ 30 ∷ [])
     -- 'MoveTo (0,0), LineTo (4,0), (4,2), (0,2), Close: half extents 2 and 1, frame 1 0 0 1 2 1'
     ∷ fits (0 ∷ 1 ∷ 1 ∷ 1 ∷ 5 ∷ []) (f0 ∷ f0 ∷ f4 ∷ f0 ∷ f4 ∷ f2 ∷ f0 ∷ f2 ∷ [])
-    (box.Box (record { frame = record { a = f1; b = f0; c = f0; d = f1; x = f2; y = f1 }; ex = f2; ey = f1; rx = f0; ry = f0 }))
+    (Ok (Some (record { frame = record { a = f1; b = f0; c = f0; d = f1; x = f2; y = f1 }; ex = f2; ey = f1; rx = f0; ry = f0 })))
     -- 'MoveTo, Close, MoveTo, LineTo: no box'
-    ∷ fits (0 ∷ 5 ∷ 0 ∷ 1 ∷ []) (f0 ∷ f0 ∷ f0 ∷ f0 ∷ f4 ∷ f0 ∷ []) box.NoBox
+    ∷ fits (0 ∷ 5 ∷ 0 ∷ 1 ∷ []) (f0 ∷ f0 ∷ f0 ∷ f0 ∷ f4 ∷ f0 ∷ []) (Ok None)
     ∷ []
 
 -- ---- the theorem

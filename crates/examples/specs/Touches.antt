@@ -1,24 +1,21 @@
 -- Document 02, change 2: what the call on one box answers half a fringe width past the outline and one float further;
 -- change 3: what the call on a list answers where several boxes hold the touch; change 7: what it answers to long lists.
 -- Definitions only; proofs/Touched.antt and proofs/Sheet.antt show them.
-use Rattle.std.specs.Prelude.{◌≡◌, Bool, true, false, List, [], ◌∷◌, ◌++◌, ℕ, Float, replicate}
+use Rattle.std.specs.Prelude.{◌≡◌, Bool, true, false, List, [], ◌∷◌, ◌++◌, ℕ, Float, replicate, Option, Some, Result, Ok, Err}
 use Rattle.std.specs.Float.{nan, binary32}
 use Rattle.std.specs.Float.Ieee.{of_bits}
 use Rattle.float.specs.Ops.{f0, f1, f2, f_minus_1}
 use Rattle.fault.specs.declared.Fault.TheVariants.{NumberOutOfRange, ImproperBox, TooManyBoxes}
 use Rattle.geometry.specs.declared.Position.{Position}
 use Rattle.shape.specs.declared.RoundedBox.{RoundedBox}
-use Rattle.shape.specs.declared.TestAnswer.TheVariants.{Done}
 use Rattle.shape.specs.Limits.{largest_number}
 use Rattle.clip_coverage.specs.declared.ClipCoverage.{ClipCoverage}
 use Rattle.clip_coverage.specs.Distance.{distance_of}
-use Rattle.covering.specs.declared.MaybeCoverage.TheVariants.{Coverage}
 use Rattle.covering.specs.Coverage.{coverage_of}
 use Rattle.covering.specs.Laws.{on_or_inside_of}
 use Rattle.covering.specs.Calls.{touches_call}
-use Rattle.touch.specs.declared.TouchAnswer.{TouchAnswer}
-use Rattle.touch.specs.declared.TouchAnswer.TheVariants.{Frame, Refused}
 use Rattle.touch.specs.Touch.{touch_call}
+use Rattle.fault.specs.declared.Fault.{Fault}
 use Rattle.examples.specs.Starred.{f4}
 
 -- 10^-36; 0.4375; 4.5, 5 and the float after each
@@ -65,7 +62,7 @@ abbrev pub far_centre : Position
 far_centre = point largest_number largest_number
 
 abbrev pub Touched : RoundedBox → Float → Position → Bool → Type 0
-Touched b fringe p answer = touches_call b fringe p ≡ Done answer
+Touched b fringe p answer = touches_call b fringe p ≡ Ok answer
 
 pub record EdgesTakeAFinger : Type 0 where
   -- 'at most 0.5', where the rule before had no touch
@@ -80,21 +77,21 @@ pub record EdgesTakeAFinger : Type 0 where
   -- no coverage, however near
   pub thin : Touched sliver f1 (point f0 f0) false
   -- a distance that is a NaN
-  pub no_number : (k : ClipCoverage) × (coverage_of far tiny ≡ Coverage k) × (distance_of k far_centre ≡ nan)
+  pub no_number : (k : ClipCoverage) × (coverage_of far tiny ≡ Some k) × (distance_of k far_centre ≡ nan)
   pub at_no_number : Touched far tiny far_centre false
 
 -- a list is touched at the origin
-abbrev pub Names : List RoundedBox → Float → TouchAnswer → Type 0
+abbrev pub Names : List RoundedBox → Float → Result (Option ℕ) Fault → Type 0
 Names bs fringe answer = touch_call bs fringe (point f0 f0) ≡ answer
 
 pub record FirstOfSeveral : Type 0 where
   -- both hold the touch
-  pub both : Names (square ∷ square ∷ []) f1 (Frame 0)
+  pub both : Names (square ∷ square ∷ []) f1 (Ok (Some 0))
   -- the first has no coverage
-  pub second : Names (sliver ∷ square ∷ []) f1 (Frame 1)
+  pub second : Names (sliver ∷ square ∷ []) f1 (Ok (Some 1))
   -- the first holds it, and the list is refused for the second, or for its fringe
-  pub at_fault : Names (square ∷ upright f_minus_1 f4 f0 ∷ []) f1 (Refused ImproperBox)
-  pub no_fringe : Names (square ∷ square ∷ []) nan (Refused NumberOutOfRange)
+  pub at_fault : Names (square ∷ upright f_minus_1 f4 f0 ∷ []) f1 (Err ImproperBox)
+  pub no_fringe : Names (square ∷ square ∷ []) nan (Err NumberOutOfRange)
 
 -- n boxes alike, and one behind them, at place n
 abbrev pub behind : ℕ → RoundedBox → RoundedBox → List RoundedBox
@@ -102,11 +99,11 @@ behind n b last = replicate n b ++ last ∷ []
 
 pub record SheetOfFrames : Type 0 where
   -- 4,096 boxes, the last alone touched
-  pub last : Names (behind 4095 sliver square) f1 (Frame 4095)
+  pub last : Names (behind 4095 sliver square) f1 (Ok (Some 4095))
   -- one box more; and the same where the first box's place is a NaN
-  pub one_more : Names (behind 4096 sliver square) f1 (Refused TooManyBoxes)
-  pub one_more_first : Names (upright_at nan f4 f4 f0 ∷ behind 4095 square square) f1 (Refused TooManyBoxes)
+  pub one_more : Names (behind 4096 sliver square) f1 (Err TooManyBoxes)
+  pub one_more_first : Names (upright_at nan f4 f4 f0 ∷ behind 4095 square square) f1 (Err TooManyBoxes)
   -- place 256 of 257 boxes: a byte would say 0
-  pub past_a_byte : Names (behind 256 sliver square) f1 (Frame 256)
+  pub past_a_byte : Names (behind 256 sliver square) f1 (Ok (Some 256))
   -- 300 boxes, of which all are touched but the last, which is at fault
-  pub late_fault : Names (behind 299 square (upright f_minus_1 f4 f0)) f1 (Refused ImproperBox)
+  pub late_fault : Names (behind 299 square (upright f_minus_1 f4 f0)) f1 (Err ImproperBox)

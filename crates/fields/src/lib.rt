@@ -1,7 +1,13 @@
-// A line and its fields, which stand between blanks.
+// A line's fields, which stand between blanks, and what may be wrong with a line.
 #![tactic(auto)]
 
-ghost use Rattle.std.specs.Prelude.{◌≡◌};
+ghost use Rattle.std.specs.Prelude.{length};
+ghost use Rattle.std.specs.Iterator.{at_most};
+
+use arrayvec::ArrayVec;
+use hex::FromHex;
+use std::num::f32_from_bits_with_nan;
+use thiserror::Error;
 
 // The longest line, with the byte that ends it.
 pub const MOST_LINE: usize = 262144;
@@ -15,453 +21,209 @@ pub const MOST_FLOATS: usize = 2581;
 pub const MOST_VERBS: usize = 512;
 
 // What is wrong with a line.
-#[derive(Clone, Copy)]
+#[derive(Debug, Clone, Copy, PartialEq, Eq, Error)]
 pub enum Problem {
-    Nothing,
+    #[error("the line is longer than 262,143 bytes")]
     LineTooLong,
+    #[error("no call has this name")]
     UnknownCall,
+    #[error("the buffers are 'run' and 'next'")]
     UnknownBuffer,
+    #[error("the line ends where a field should stand")]
     FieldMissing,
+    #[error("the call takes no more fields")]
     FieldTooMany,
+    #[error("a decimal number is missing, badly written or too large")]
     NotANumber,
+    #[error("a float is not written as eight hexadecimal digits")]
     NotAFloat,
+    #[error("the bytes are not written as pairs of hexadecimal digits")]
     NotHex,
+    #[error("a verb or a byte is not a decimal number up to 255")]
     NotAByte,
+    #[error("an ink buffer's number is not a decimal number up to 65,535")]
     NotSixteenBits,
+    #[error("a buffer has at most 65,536 bytes")]
     BufferTooLong,
+    #[error("an ink buffer has at most 8,200 numbers")]
     InkTooLong,
+    #[error("a drawing takes at most 16,384 words")]
     TooManyWords,
+    #[error("a line takes at most 2,581 floats")]
     TooManyFloats,
+    #[error("an outline's line takes at most 512 verbs")]
     TooManyVerbs,
+    #[error("a list's line takes at most 257 boxes")]
     TooManyBoxes,
+    #[error("a list of copies has at most 4,097 boxes")]
     TooManyCopies,
-    ScratchTooLong,
 }
 
-// Where a field stands: one without bytes says that the line has no more.
-#[derive(Clone, Copy)]
-pub struct Field {
-    pub start: usize,
-    pub end: usize,
-}
+// ---- one field's value
 
-// ---- fields
+// The greatest number that a field may hold: without its last digit it is below 2^28.
+const GREATEST: u32 = 2_684_354_559;
 
-fn skip_blanks(line: &[u8; MOST_LINE], from: usize) -> usize {
-    let mut i = from;
-    while i < MOST_LINE {
-        if line[i] > b' ' {
-            return i;
-        }
-        if line[i] == b'\n' {
-            return i;
-        }
-        i += 1;
+// A number in decimal digits, and nothing but digits.
+fn decimal(digits: &[u8]) -> Option<u32> {
+    if digits.is_empty() {
+        return None;
     }
-    i
+    let number = digits.iter().try_fold(0u32, |number, digit| {
+        let digit = char::from(*digit).to_digit(10)?;
+        number.checked_mul(10)?.checked_add(digit)
+    })?;
+    (number <= GREATEST).then_some(number)
 }
 
-fn field_end(line: &[u8; MOST_LINE], from: usize) -> usize {
-    let mut i = from;
-    while i < MOST_LINE {
-        if line[i] <= b' ' {
-            return i;
-        }
-        i += 1;
-    }
-    i
-}
-
-// The first field at or behind a place.
-pub fn next(line: &[u8; MOST_LINE], from: usize) -> Field {
-    let start = skip_blanks(line, from);
-    Field {
-        start,
-        end: field_end(line, start),
+// A number with or without a minus.
+fn signed(field: &[u8]) -> Option<i32> {
+    match field.strip_prefix(b"-") {
+        Some(digits) => i32::try_from(-i64::from(decimal(digits)?)).ok(),
+        None => i32::try_from(decimal(field)?).ok(),
     }
 }
 
-pub fn is_empty(f: Field) -> bool {
-    f.end <= f.start
+// A bit pattern in eight hexadecimal digits.
+fn bit_pattern(field: &[u8]) -> Option<u32> {
+    let bytes = <[u8; 4]>::from_hex(field).ok()?;
+    Some(u32::from_be_bytes(bytes))
 }
 
-pub fn byte_at(line: &[u8; MOST_LINE], at: usize) -> u8 {
-    if at < MOST_LINE { line[at] } else { b'\n' }
+// What a field of a list holds.
+trait Value: Sized {
+    fn read(field: &[u8]) -> Result<Self, Problem>;
 }
 
-// Whether a field reads as a name does.
-pub fn is(line: &[u8; MOST_LINE], f: Field, name: &[u8]) -> bool {
-    let mut at = f.start;
-    let mut i = 0;
-    while i < name.len() {
-        if f.end <= at {
-            return false;
-        }
-        if byte_at(line, at) != name[i] {
-            return false;
-        }
-        at += 1;
-        i += 1;
+impl Value for f32 {
+    fn read(field: &[u8]) -> Result<f32, Problem> {
+        let bits = bit_pattern(field).ok_or(Problem::NotAFloat)?;
+        Ok(f32_from_bits_with_nan(bits))
     }
-    f.end <= at
 }
 
-// Whether nothing stands behind a place.
-pub fn at_end(line: &[u8; MOST_LINE], from: usize) -> Problem {
-    if is_empty(next(line, from)) {
-        return Problem::Nothing;
+// A verb.
+impl Value for u8 {
+    fn read(field: &[u8]) -> Result<u8, Problem> {
+        let number = decimal(field).ok_or(Problem::NotAByte)?;
+        u8::try_from(number).map_err(|_| Problem::NotAByte)
     }
-    Problem::FieldTooMany
 }
 
-// ---- digits and numbers
+// ---- a line's fields
 
-// What a byte that is no digit counts as.
-const NO_DIGIT: u8 = 99;
-// What a field that is no number counts as, or one of too many digits.
-const NO_NUMBER: u64 = 0x100_0000_0000;
-// Below this a number has room for one digit more.
-const ROOM: u64 = 0x1000_0000;
-
-pub fn wide(b: u8) -> u64
-    ensures { result ≡ b }
-{
-    b as u64
+fn is_blank(byte: u8) -> bool {
+    byte <= b' '
 }
 
-// The value of a digit, to the base of sixteen.
-fn digit(b: u8) -> u8 {
-    if b >= b'0' && b <= b'9' {
-        return b - b'0';
-    }
-    if b >= b'a' && b <= b'f' {
-        return b - b'a' + 10;
-    }
-    if b >= b'A' && b <= b'F' {
-        return b - b'A' + 10;
-    }
-    NO_DIGIT
+// The fields of a line that are not yet read.
+#[derive(Drop)]
+pub struct Fields<'a> {
+    rest: &'a [u8],
 }
 
-// A number with one digit more, to the base of sixteen or of ten.
-fn push_digit(value: u64, d: u8, sixteen: bool) -> u64 {
-    if value >= ROOM {
-        return NO_NUMBER;
+impl<'a> Iterator for Fields<'a> {
+    type Item = &'a [u8];
+
+    ghost remaining = { λ s. at_most (length s.rest.now) };
+
+    fn next(&mut self) -> Option<&'a [u8]> {
+        let rest = self.rest;
+        let start = rest.iter().position(|byte| !is_blank(*byte))?;
+        let behind = &rest[start + 1..];
+        let length = behind
+            .iter()
+            .position(|byte| is_blank(*byte))
+            .unwrap_or(behind.len());
+        let (field, rest) = rest.split_at(start + 1 + length);
+        self.rest = rest;
+        Some(&field[start..])
     }
-    if sixteen {
-        if d < 16 {
-            return value * 16 + wide(d);
-        }
-        return NO_NUMBER;
-    }
-    if d < 10 {
-        return value * 10 + wide(d);
-    }
-    NO_NUMBER
 }
 
-// The number whose digits stand from `start` up to `end`.
-fn number(line: &[u8; MOST_LINE], start: usize, end: usize, sixteen: bool) -> u64 {
-    if end <= start {
-        return NO_NUMBER;
+impl<'a> Fields<'a> {
+    pub fn of(line: &'a [u8]) -> Self {
+        Fields { rest: line }
     }
-    let mut value = 0;
-    let mut i = start;
-    while i < end {
-        value = push_digit(value, digit(byte_at(line, i)), sixteen);
-        i += 1;
-    }
-    value
-}
 
-// The byte of two hexadecimal digits.
-pub fn hex_byte(line: &[u8; MOST_LINE], at: usize, further: usize) -> u8 {
-    let high = digit(byte_at(line, at));
-    let low = digit(byte_at(line, further));
-    if high < 16 {
-        if low < 16 {
-            return high * 16 + low;
+    // Whether the line ends here.
+    pub fn at_end(mut self) -> Result<(), Problem> {
+        match self.next() {
+            Some(_) => Err(Problem::FieldTooMany),
+            None => Ok(()),
         }
     }
-    0
-}
 
-// Whether a field holds hexadecimal digits only.
-pub fn is_hex(line: &[u8; MOST_LINE], f: Field) -> bool {
-    let end = f.end;
-    let mut i = f.start;
-    while i < end {
-        if digit(byte_at(line, i)) > 15 {
-            return false;
+    fn field(&mut self) -> Result<&'a [u8], Problem> {
+        self.next().ok_or(Problem::FieldMissing)
+    }
+
+    // A number that is not negative.
+    pub fn natural(&mut self) -> Result<usize, Problem> {
+        let number = self.next().and_then(decimal).ok_or(Problem::NotANumber)?;
+        Ok(number as usize)
+    }
+
+    pub fn word(&mut self) -> Result<i32, Problem> {
+        self.next().and_then(signed).ok_or(Problem::NotANumber)
+    }
+
+    fn value<T: Value>(&mut self) -> Result<T, Problem> {
+        T::read(self.field()?)
+    }
+
+    // ---- lists of fields
+
+    // So many floats.
+    pub fn floats<const N: usize>(&mut self) -> Result<[f32; N], Problem> {
+        let mut floats = [0f32; N];
+        for place in &mut floats {
+            *place = self.value()?;
         }
-        i += 1;
+        Ok(floats)
     }
-    true
-}
 
-// ---- fields by kind
-
-#[derive(Clone, Copy)]
-pub enum NaturalField {
-    Value(usize),
-    Bad,
-}
-
-// A number that is not negative.
-pub fn natural(line: &[u8; MOST_LINE], f: Field) -> NaturalField {
-    let value = number(line, f.start, f.end, false);
-    if value >= NO_NUMBER {
-        return NaturalField::Bad;
+    // So many floats, behind which the line ends.
+    pub fn last_floats<const N: usize>(mut self) -> Result<[f32; N], Problem> {
+        let floats = self.floats()?;
+        self.at_end()?;
+        Ok(floats)
     }
-    NaturalField::Value(value as usize)
-}
 
-// A number that is not negative, whether there is one, and the place behind it.
-#[derive(Clone, Copy)]
-pub struct Length {
-    pub value: usize,
-    pub good: bool,
-    pub at: usize,
-}
-
-pub fn size_at(line: &[u8; MOST_LINE], from: usize) -> Length {
-    let f = next(line, from);
-    let end = f.end;
-    match natural(line, f) {
-        NaturalField::Value(value) => Length {
-            value,
-            good: true,
-            at: end,
-        },
-        NaturalField::Bad => Length {
-            value: 0,
-            good: false,
-            at: end,
-        },
-    }
-}
-
-#[derive(Clone, Copy)]
-pub enum WordField {
-    Value(i32),
-    Bad,
-}
-
-// Minus a number: `!n` is -1 - n.
-fn negative(value: u64) -> WordField {
-    if value == 0 {
-        return WordField::Value(0);
-    }
-    if value <= 2147483648 {
-        return WordField::Value(!((value - 1) as i32));
-    }
-    WordField::Bad
-}
-
-fn word(line: &[u8; MOST_LINE], f: Field) -> WordField {
-    let start = f.start;
-    if byte_at(line, start) == b'-' {
-        if start < f.end {
-            return negative(number(line, start + 1, f.end, false));
+    // A number, which is at most so large, and so many values.
+    fn list<T: Value + Default + Drop, const N: usize>(
+        &mut self,
+        most: usize,
+        too_many: Problem,
+    ) -> Result<ArrayVec<T, N>, Problem> {
+        let count = self.natural()?;
+        if count > most {
+            return Err(too_many);
         }
+        let mut list = ArrayVec::new();
+        for _ in 0..count {
+            let _ = list.try_push(self.value()?);
+        }
+        Ok(list)
     }
-    let value = number(line, start, f.end, false);
-    if value < 2147483648 {
-        return WordField::Value(value as i32);
-    }
-    WordField::Bad
-}
 
-// A word, whether there is one, and the place behind it.
-#[derive(Clone, Copy)]
-pub struct Signed {
-    pub value: i32,
-    pub good: bool,
-    pub at: usize,
-}
+    // A number, and so many verbs.
+    pub fn verbs(&mut self) -> Result<ArrayVec<u8, MOST_VERBS>, Problem> {
+        self.list(MOST_VERBS, Problem::TooManyVerbs)
+    }
 
-pub fn word_at(line: &[u8; MOST_LINE], from: usize) -> Signed {
-    let f = next(line, from);
-    let end = f.end;
-    match word(line, f) {
-        WordField::Value(value) => Signed {
-            value,
-            good: true,
-            at: end,
-        },
-        WordField::Bad => Signed {
-            value: 0,
-            good: false,
-            at: end,
-        },
+    // A number, which is at most so large, and so many floats.
+    pub fn positions(&mut self, most: usize) -> Result<ArrayVec<f32, MOST_FLOATS>, Problem> {
+        self.list(most, Problem::TooManyFloats)
     }
-}
 
-#[derive(Clone, Copy)]
-pub enum FloatField {
-    Value(f32),
-    Bad,
-}
-
-// The float of a bit pattern. `from_bits` takes none of a NaN's.
-fn float_of(bits: u32) -> f32 {
-    if bits % 0x8000_0000 > 0x7f80_0000 {
-        return float::infinity() - float::infinity();
+    // The rest of the line as words.
+    pub fn words(self) -> Result<ArrayVec<i32, MOST_WORDS>, Problem> {
+        let mut words = ArrayVec::new();
+        for field in self {
+            let word = signed(field).ok_or(Problem::NotANumber)?;
+            words.try_push(word).map_err(|_| Problem::TooManyWords)?;
+        }
+        Ok(words)
     }
-    f32::from_bits(bits)
-}
-
-fn float_field(line: &[u8; MOST_LINE], f: Field) -> FloatField {
-    let start = f.start;
-    let end = f.end;
-    if end < start {
-        return FloatField::Bad;
-    }
-    if end - start != 8 {
-        return FloatField::Bad;
-    }
-    let bits = number(line, start, end, true);
-    if bits <= 0xffff_ffff {
-        return FloatField::Value(float_of(bits as u32));
-    }
-    FloatField::Bad
-}
-
-// ---- lists of fields
-
-// How far a list is read: where its next field is looked for, how many are in, whether more are
-// to come, and what is wrong.
-#[derive(Clone, Copy)]
-pub struct List {
-    pub at: usize,
-    pub count: usize,
-    pub more: bool,
-    pub problem: Problem,
-}
-
-fn ended(l: List, problem: Problem) -> List {
-    List {
-        at: l.at,
-        count: l.count,
-        more: false,
-        problem,
-    }
-}
-
-fn going_on(at: usize, count: usize) -> List {
-    List {
-        at,
-        count,
-        more: true,
-        problem: Problem::Nothing,
-    }
-}
-
-fn next_word(line: &[u8; MOST_LINE], out: &mut [i32; MOST_WORDS], l: List) -> List {
-    let f = next(line, l.at);
-    if is_empty(f) {
-        return ended(l, Problem::Nothing);
-    }
-    let WordField::Value(v) = word(line, f) else {
-        return ended(l, Problem::NotANumber);
-    };
-    let n = l.count;
-    if n >= MOST_WORDS {
-        return ended(l, Problem::TooManyWords);
-    }
-    out[n] = v;
-    going_on(f.end, n + 1)
-}
-
-// The rest of the line as words.
-pub fn words(line: &[u8; MOST_LINE], from: usize, out: &mut [i32; MOST_WORDS]) -> List {
-    let mut l = going_on(from, 0);
-    let mut turns = MOST_LINE;
-    while turns > 0 && l.more {
-        l = next_word(line, out, l);
-        turns -= 1;
-    }
-    l
-}
-
-fn next_float(line: &[u8; MOST_LINE], out: &mut [f32; MOST_FLOATS], l: List) -> List {
-    let f = next(line, l.at);
-    if is_empty(f) {
-        return ended(l, Problem::FieldMissing);
-    }
-    let FloatField::Value(v) = float_field(line, f) else {
-        return ended(l, Problem::NotAFloat);
-    };
-    let n = l.count;
-    if n >= MOST_FLOATS {
-        return ended(l, Problem::TooManyFloats);
-    }
-    out[n] = v;
-    going_on(f.end, n + 1)
-}
-
-// So many floats.
-pub fn floats(
-    line: &[u8; MOST_LINE],
-    from: usize,
-    wanted: usize,
-    out: &mut [f32; MOST_FLOATS],
-) -> List {
-    let mut l = going_on(from, 0);
-    let mut turns = wanted;
-    while turns > 0 && l.more {
-        l = next_float(line, out, l);
-        turns -= 1;
-    }
-    l
-}
-
-// So many floats, behind which the line ends.
-pub fn last_floats(
-    line: &[u8; MOST_LINE],
-    from: usize,
-    wanted: usize,
-    out: &mut [f32; MOST_FLOATS],
-) -> List {
-    let list = floats(line, from, wanted, out);
-    let problem = list.problem;
-    let Problem::Nothing = problem else {
-        return list;
-    };
-    ended(list, at_end(line, list.at))
-}
-
-fn next_verb(line: &[u8; MOST_LINE], out: &mut [u8; MOST_VERBS], l: List) -> List {
-    let f = next(line, l.at);
-    if is_empty(f) {
-        return ended(l, Problem::FieldMissing);
-    }
-    let NaturalField::Value(v) = natural(line, f) else {
-        return ended(l, Problem::NotAByte);
-    };
-    if v > 255 {
-        return ended(l, Problem::NotAByte);
-    }
-    let n = l.count;
-    if n >= MOST_VERBS {
-        return ended(l, Problem::TooManyVerbs);
-    }
-    out[n] = v as u8;
-    going_on(f.end, n + 1)
-}
-
-// So many verbs.
-pub fn verbs(
-    line: &[u8; MOST_LINE],
-    from: usize,
-    wanted: usize,
-    out: &mut [u8; MOST_VERBS],
-) -> List {
-    let mut l = going_on(from, 0);
-    let mut turns = wanted;
-    while turns > 0 && l.more {
-        l = next_verb(line, out, l);
-        turns -= 1;
-    }
-    l
 }

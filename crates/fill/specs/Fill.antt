@@ -1,6 +1,6 @@
 -- An upright rect that is filled under a clip, as shape.rs computes it. `⊕ ⊖ ⊗` are binary32's operations, and each
 -- rounds once. Definitions only.
-use Rattle.std.specs.Prelude.{Bool, cond, not, ◌&&◌, ◌||◌, Float}
+use Rattle.std.specs.Prelude.{Bool, cond, not, ◌&&◌, ◌||◌, Float, Option, Some, None}
 use Rattle.std.specs.Float.Ieee.{neg, le}
 use Rattle.float.specs.Ops.{◌⊕◌, ◌⊖◌, ◌⊗◌, f0}
 use Rattle.float.specs.Simple.{abs_of}
@@ -10,17 +10,13 @@ use Rattle.shape.specs.declared.RoundedBox.{RoundedBox}
 use Rattle.clip_coverage.specs.Limits.{draw_slack}
 use Rattle.covering.specs.Coverage.{per_fringe_of}
 use Rattle.beside.specs.declared.Placed.{Placed}
-use Rattle.beside.specs.declared.MaybePlaced.{MaybePlaced}
-use Rattle.beside.specs.declared.MaybePlaced.TheVariants as alongside
 use Rattle.beside.specs.Alongside.{aligned_share, scale_of, alongside_of}
 use Rattle.sides.specs.Shared.{square_of}
 use Rattle.scissor.specs.declared.Axis.{Axis}
-use Rattle.scissor.specs.declared.MaybeBoth.{MaybeBoth}
-use Rattle.scissor.specs.declared.MaybeBoth.TheVariants as both
 use Rattle.scissor.specs.Scissor.{with_scissor_of, x_axis_of, y_axis_of}
 use Rattle.fill.specs.declared.RectFill.TheVariants as fill
-use Rattle.fill.specs.declared.MaybeFill.{MaybeFill}
-use Rattle.fill.specs.declared.MaybeFill.TheVariants as maybe
+use Rattle.clip_coverage.specs.declared.ClipCoverage.{ClipCoverage}
+use Rattle.fill.specs.declared.RectFill.{RectFill}
 
 -- ---- RoundedBox::upright
 
@@ -41,11 +37,11 @@ upright_of b =
 -- carrying the box'
 
 -- `both.coverage(fringe_width).map(|_| RectFill::Shared(both))`, where `both` is as in `with_scissor`
-abbrev pub shared_by : MaybeBoth → MaybeFill
-shared_by (both.Both b k) = maybe.Fill (fill.Shared b)
-shared_by both.NoBox = maybe.NoBox
+abbrev pub shared_by : Option (RoundedBox × ClipCoverage) → Option RectFill
+shared_by (Some (b, k)) = Some (fill.Shared b)
+shared_by None = None
 
-unfoldable pub shared_of : RoundedBox → RoundedBox → Float → MaybeFill
+unfoldable pub shared_of : RoundedBox → RoundedBox → Float → Option RectFill
 shared_of clip f fringe = shared_by (with_scissor_of clip f fringe)
 
 -- `covers`, of one axis: the clip's half extent, the fill's centre and half side in its frame
@@ -59,17 +55,17 @@ unfoldable pub grown_of : RoundedBox → Position → RoundedBox
 grown_of clip per = record { frame = clip.frame; ex = clip.ex ⊕ per.x; ey = clip.ey ⊕ per.y; rx = f0; ry = f0 }
 
 -- `covers.then(..)`, for a fill that is placed at p
-unfoldable pub covered_by_of : RoundedBox → Placed → Position → MaybeFill
+unfoldable pub covered_by_of : RoundedBox → Placed → Position → Option RectFill
 covered_by_of clip p per =
-    cond (covers_of (x_axis_of clip p per) && covers_of (y_axis_of clip p per)) (maybe.Fill (fill.Covered (grown_of clip per))) maybe.NoBox
+    cond (covers_of (x_axis_of clip p per) && covers_of (y_axis_of clip p per)) (Some (fill.Covered (grown_of clip per))) None
 
-abbrev pub covered_in : RoundedBox → MaybePlaced → Position → MaybeFill
-covered_in clip (alongside.Placed p) per = covered_by_of clip p per
-covered_in clip alongside.NotParallel per = maybe.NoBox
+abbrev pub covered_in : RoundedBox → Option Placed → Position → Option RectFill
+covered_in clip (Some p) per = covered_by_of clip p per
+covered_in clip None per = None
 
-unfoldable pub covered_of : RoundedBox → RoundedBox → Float → MaybeFill
+unfoldable pub covered_of : RoundedBox → RoundedBox → Float → Option RectFill
 covered_of clip f fringe = covered_in clip (alongside_of clip f) (per_fringe_of (inverse_of clip.frame) fringe)
 
-unfoldable pub rect_fill_of : RoundedBox → RoundedBox → Float → MaybeFill
+unfoldable pub rect_fill_of : RoundedBox → RoundedBox → Float → Option RectFill
 rect_fill_of clip f fringe =
-    cond (not (upright_of clip)) maybe.NoBox (cond (square_of clip) (shared_of clip f fringe) (covered_of clip f fringe))
+    cond (not (upright_of clip)) None (cond (square_of clip) (shared_of clip f fringe) (covered_of clip f fringe))

@@ -7,13 +7,13 @@
 
 ghost use Rattle.std.specs.Prelude.{◌≡◌};
 ghost use Rattle.fill.specs.Fill.{none_of, both_none_of, upright_of, shared_of, covers_of, grown_of, covered_by_of, covered_of, rect_fill_of};
-ghost use Rattle.fill.specs.Calls.{fill_answer, rect_fill_call};
+ghost use Rattle.fill.specs.Calls.{rect_fill_call};
 
-use beside::{MaybePlaced, Placed};
+use beside::Placed;
 use clip_coverage::ClipCoverage;
-use fault::{Check, Fault};
+use fault::Fault;
 use geometry::Position;
-use scissor::{Axis, MaybeBoth};
+use scissor::Axis;
 use shape::RoundedBox;
 
 // What an upright rect filled under a clip is drawn as in its place.
@@ -31,40 +31,17 @@ impl RectFill {
     pub const MAX_FILL_VERBS: usize = 8;
 }
 
-// The Rust's Option<RectFill>.
-#[derive(Clone, Copy)]
-pub enum MaybeFill {
-    Fill(RectFill),
-    NoBox,
-}
-
-#[derive(Clone, Copy)]
-pub enum FillAnswer {
-    Fill(RectFill),
-    NoBox,
-    Refused(Fault),
-}
-
-impl MaybeFill {
-    fn answer(self) -> FillAnswer
-        ensures { result ≡ fill_answer self }
-    {
-        let MaybeFill::Fill(fill) = self else {
-            return FillAnswer::NoBox;
-        };
-        FillAnswer::Fill(fill)
-    }
-}
-
 // ---- upright
 
 // Whether a number of a frame is none beside the frame's scale, and whether both of two are.
+#[tactic(auto, unfolding(crate::specs::Fill::none_of))]
 fn none(v: f32, scale: f32) -> bool
     ensures { result ≡ none_of v scale }
 {
     float::abs(v) <= Placed::ALIGNED_SHARE * scale
 }
 
+#[tactic(auto, unfolding(crate::specs::Fill::both_none_of))]
 fn both_none(v: f32, w: f32, scale: f32) -> bool
     ensures { result ≡ both_none_of v w scale }
 {
@@ -72,6 +49,7 @@ fn both_none(v: f32, w: f32, scale: f32) -> bool
 }
 
 // Whether a box's sides lie along the device's axes.
+#[tactic(auto, unfolding(crate::specs::Fill::upright_of))]
 pub fn upright(b: RoundedBox) -> bool
     ensures { result ≡ upright_of b }
 {
@@ -83,16 +61,16 @@ pub fn upright(b: RoundedBox) -> bool
 // ---- rect_fill
 
 // The rect that a fill shares with a rect clip, where it has a coverage.
-fn shared(clip: RoundedBox, fill: RoundedBox, fringe: f32) -> MaybeFill
+#[tactic(auto, unfolding(crate::specs::Fill::shared_of))]
+fn shared(clip: RoundedBox, fill: RoundedBox, fringe: f32) -> Option<RectFill>
     ensures { result ≡ shared_of clip fill fringe }
 {
-    let MaybeBoth::Both(both, _) = scissor::with_scissor_unchecked(clip, fill, fringe) else {
-        return MaybeFill::NoBox;
-    };
-    MaybeFill::Fill(RectFill::Shared(both))
+    let (both, _) = scissor::with_scissor_unchecked(clip, fill, fringe)?;
+    Some(RectFill::Shared(both))
 }
 
 // Whether the other box's sides on an axis lie at or past the box's, to DRAW_SLACK.
+#[tactic(auto, unfolding(crate::specs::Fill::covers_of))]
 fn covers(a: Axis) -> bool
     ensures { result ≡ covers_of a }
 {
@@ -101,45 +79,45 @@ fn covers(a: Axis) -> bool
 }
 
 // The clip grown by a fringe width, with square corners.
+#[tactic(auto, unfolding(crate::specs::Fill::grown_of))]
 fn grown(clip: RoundedBox, per_fringe: Position) -> RoundedBox
     ensures { result ≡ grown_of clip per_fringe }
 {
-    let frame = clip.frame;
     RoundedBox {
-        frame,
         ex: clip.ex + per_fringe.x,
         ey: clip.ey + per_fringe.y,
         rx: 0.0,
         ry: 0.0,
+        ..clip
     }
 }
 
 // The clip itself, where a fill that is placed in its frame covers it.
 #[tactic(auto, unfolding(crate::specs::Fill::covered_by_of))]
-fn covered_by(clip: RoundedBox, p: Placed, per_fringe: Position) -> MaybeFill
+fn covered_by(clip: RoundedBox, p: Placed, per_fringe: Position) -> Option<RectFill>
     ensures { result ≡ covered_by_of clip p per_fringe }
 {
     if covers(Axis::x(clip, p, per_fringe)) && covers(Axis::y(clip, p, per_fringe)) {
-        return MaybeFill::Fill(RectFill::Covered(grown(clip, per_fringe)));
+        return Some(RectFill::Covered(grown(clip, per_fringe)));
     }
-    MaybeFill::NoBox
+    None
 }
 
-fn covered(clip: RoundedBox, fill: RoundedBox, fringe: f32) -> MaybeFill
+#[tactic(auto, unfolding(crate::specs::Fill::covered_of))]
+fn covered(clip: RoundedBox, fill: RoundedBox, fringe: f32) -> Option<RectFill>
     ensures { result ≡ covered_of clip fill fringe }
 {
-    let MaybePlaced::Placed(p) = beside::alongside(clip, fill) else {
-        return MaybeFill::NoBox;
-    };
+    let p = beside::alongside(clip, fill)?;
     let frame = clip.frame;
     covered_by(clip, p, covering::per_fringe(frame.inverse(), fringe))
 }
 
-fn rect_fill_unchecked(clip: RoundedBox, fill: RoundedBox, fringe: f32) -> MaybeFill
+#[tactic(auto, unfolding(crate::specs::Fill::rect_fill_of))]
+fn rect_fill_unchecked(clip: RoundedBox, fill: RoundedBox, fringe: f32) -> Option<RectFill>
     ensures { result ≡ rect_fill_of clip fill fringe }
 {
     if !upright(clip) {
-        return MaybeFill::NoBox;
+        return None;
     }
     if sides::square(clip) {
         return shared(clip, fill, fringe);
@@ -151,11 +129,9 @@ fn rect_fill_unchecked(clip: RoundedBox, fill: RoundedBox, fringe: f32) -> Maybe
 // share, when it has a coverage; under an upright box with round corners that the rect covers whole, the
 // box itself. Of the fill neither is asked, that it is upright or that its corners are square.
 // Ruled out: a shared rect that has no coverage; the clip without the fringe width around it.
-pub fn rect_fill(clip: RoundedBox, fill: RoundedBox, fringe: f32) -> FillAnswer
+pub fn rect_fill(clip: RoundedBox, fill: RoundedBox, fringe: f32) -> Result<Option<RectFill>, Fault>
     ensures { result ≡ rect_fill_call clip fill fringe }
 {
-    if let Check::Refused(fault) = beside::pair_fringe_check(clip, fill, fringe) {
-        return FillAnswer::Refused(fault);
-    }
-    rect_fill_unchecked(clip, fill, fringe).answer()
+    beside::pair_fringe_check(clip, fill, fringe)?;
+    Ok(rect_fill_unchecked(clip, fill, fringe))
 }

@@ -9,25 +9,18 @@ use borrow.Author.Tests.{ne_eqb}
 use lib.Ieee.{Float}
 use Rattle.fault.specs.declared.Fault.{Fault}
 use Rattle.fault.specs.declared.Fault.TheVariants.{UnknownVerb}
-use Rattle.fault.specs.declared.Check.{Check}
-use Rattle.fault.specs.declared.Check.TheVariants as check
-use Rattle.fault.specs.Check.{answer_unless}
+use Rattle.fault.specs.Check.{Check, answer_unless}
+use Rattle.std.specs.Prelude.{Option, Some, None, Ok, Err}
 use Rattle.geometry.specs.declared.Position.{Position}
-use Rattle.path.specs.declared.Unpacked.TheVariants as unpacked
 use Rattle.path.specs.Verbs.{unpacked_of}
-use Rattle.shape.specs.declared.MaybeBox.{MaybeBox}
-use Rattle.shape.specs.declared.MaybeBox.TheVariants as maybe
-use Rattle.shape.specs.Calls.{box_unless}
+use Rattle.shape.specs.declared.RoundedBox.{RoundedBox}
 use Rattle.outline.specs.declared.Segment.TheVariants as segment
 use Rattle.outline.specs.Outline.{verb_check_of, verbs_check_of, outline_check_of, floats_of}
 use Rattle.outline.specs.Contour.{Contour, Walked, stopped, reached, empty_of, same_place_of, move_of, draw_of, byte_step_of, contour_from, contour_of, all_lines_of}
 use Rattle.outline.proofs.Walking.{lines_and_line}
 use Rattle.rounded.specs.declared.Fitted.{Fitted}
-use Rattle.rounded.specs.declared.Fitted.TheVariants as fitted
-use Rattle.fit.specs.declared.OutlineAnswer.TheVariants as outline
-use Rattle.fit.specs.declared.CutAnswer.TheVariants as cut
 use Rattle.fit.specs.Fit.{whole_of, closed_of, segments_fitted_of, contour_fitted_of, walked_fitted_of, fit_with_cut_of, box_alone, fit_of}
-use Rattle.fit.specs.Calls.{outline_answer, cut_answer}
+use Rattle.fit.specs.Calls.{outline_answer}
 use Rattle.fit.specs.Straight.{
   straight_verb_check_of,
   straight_verbs_check_of,
@@ -44,7 +37,7 @@ use Rattle.fit.specs.Straight.{
 -- ---- the refusals
 
 -- a byte above 5 is no verb
-above : (byte : ℕ) → 5 < byte → unpacked_of byte ≡ unpacked.Refused UnknownVerb
+above : (byte : ℕ) → 5 < byte → unpacked_of byte ≡ Err UnknownVerb
 unfolding unpacked_of
 above byte l =
     let not : (n : ℕ) → n ≤ 5 → eqb byte n ≡ false = λ n h. ne_eqb byte n (λ e. omega arith) in
@@ -118,7 +111,7 @@ closed_lines k h = go (same_place_of k.last k.start)
     go true = h
     go false = lines_and_line k.segments k.start.x k.start.y ∙ h
 
-whole_if : (b : Bool) (x y : MaybeBox) → cond b (whole_of x) (whole_of y) ≡ whole_of (cond b x y)
+whole_if : (b : Bool) (x y : Option RoundedBox) → cond b (whole_of x) (whole_of y) ≡ whole_of (cond b x y)
 whole_if true x y = refl
 whole_if false x y = refl
 
@@ -127,8 +120,8 @@ unfolding contour_fitted_of straight_contour_box_of segments_fitted_of
 walked_as_before stopped h = refl
 walked_as_before (reached k) h =
     rw (closed_lines k h)
-    (ap (λ (r : Fitted). cond k.started r fitted.NoBox) (whole_if (empty_of (closed_of k)) maybe.NoBox _)
-    ∙ whole_if k.started _ maybe.NoBox)
+    (ap (λ (r : Option Fitted). cond k.started r None) (whole_if (empty_of (closed_of k)) None _)
+    ∙ whole_if k.started _ None)
 
 fitted_as_before : (verbs : List ℕ) (positions : List Float) → WithoutCurve verbs → fit_with_cut_of verbs positions ≡ whole_of (straight_fit_of verbs positions)
 unfolding fit_with_cut_of straight_fit_of
@@ -136,15 +129,15 @@ fitted_as_before verbs positions h = walked_as_before (contour_of verbs position
 
 -- ---- the calls
 
-record Answered (c : Check) (b : MaybeBox) : Type 0 where
-  fit : box_unless c (box_alone (whole_of b)) ≡ box_unless c b
-  fit_outline : answer_unless outline.Refused c (outline_answer (whole_of b)) ≡ without_strays (box_unless c b)
-  fit_with_cut : answer_unless cut.Refused c (cut_answer (whole_of b)) ≡ without_cut (box_unless c b)
+record Answered (c : Check) (b : Option RoundedBox) : Type 0 where
+  fit : answer_unless c (box_alone (whole_of b)) ≡ answer_unless c b
+  fit_outline : answer_unless c (outline_answer (whole_of b)) ≡ without_strays (answer_unless c b)
+  fit_with_cut : answer_unless c (whole_of b) ≡ without_cut (answer_unless c b)
 
-answered : (c : Check) (b : MaybeBox) → Answered c b
-answered check.Pass (maybe.Box b) = record { fit = refl; fit_outline = refl; fit_with_cut = refl }
-answered check.Pass maybe.NoBox = record { fit = refl; fit_outline = refl; fit_with_cut = refl }
-answered (check.Refused f) b = record { fit = refl; fit_outline = refl; fit_with_cut = refl }
+answered : (c : Check) (b : Option RoundedBox) → Answered c b
+answered (Ok tt) (Some b) = record { fit = refl; fit_outline = refl; fit_with_cut = refl }
+answered (Ok tt) None = record { fit = refl; fit_outline = refl; fit_with_cut = refl }
+answered (Err f) b = record { fit = refl; fit_outline = refl; fit_with_cut = refl }
 
 pub straight_fits : StraightFits
 unfolding fit_of

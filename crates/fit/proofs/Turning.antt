@@ -1,115 +1,106 @@
--- The loops over an outline's points, and its four corners. Assumes nothing.
-use mathlib.Core.Path.{◌≡◌, refl, sym, ap, ◌∙◌}
-use mathlib.Core.Bool.{Bool, true, false}
-use mathlib.Core.List.{List, [], ◌∷◌, append-nil}
-use Prim.Native.Nat.{ℕ, suc, ◌+◌, ◌-◌, ◌%◌, ◌≤◌, ◌<◌}
-use native.Mathlib.Nat.{le_antisymm, le_refl, mod-lt}
+-- The loop over an outline's points, and its four corners. Assumes nothing.
+use mathlib.Core.Path.{◌≡◌, refl, ◌∙◌}
+use mathlib.Core.Bool.{true, false}
+use mathlib.Core.List.{List, [], ◌∷◌, ◌++◌, append-nil}
+use Prim.Native.Nat.{ℕ, ◌+◌, ◌-◌, ◌%◌, ◌≤◌, ◌<◌}
+use native.Mathlib.Nat.{le_antisymm, mod-lt}
 use native.Mathlib.Numerals.{add-one}
 use native.Mathlib.Omega.{arith}
-use lib.ListN.{length, get_or, set, length-set}
-use lib.Ieee.{Float, nan}
-use Rattle.float.specs.Ops.{f0}
-use Rattle.float.specs.Simple.{max_of}
+use lib.ListN.{length, get_or, set, take, length-append, length-set}
+use lib.Ieee.{Float}
+use Rattle.std.specs.Prelude.{None}
+use Rattle.std.proofs.lemmas.List.{take_more_set, get_or_default}
 use Rattle.geometry.specs.declared.Position.{Position}
-use Rattle.shape.specs.declared.MaybeBox.TheVariants as maybe
-use Rattle.fit.specs.Fit.{from_start_of, size_below, size_of, turns_of, turns_at_of, corners_below, corners_of, four_of}
-use Rattle.outline.specs.Outline.{most_points}
-use Rattle.outline.specs.Kept.{point_at, points_in, count_of}
+use Rattle.fit.specs.Fit.{turns_of, turns_at_of, corners_below, corners_of, four_of}
+use Rattle.outline.specs.Contour.{origin}
 use Rattle.fit.specs.Kept.{Turned}
-use Rattle.outline.proofs.Points.{points_none, points_length, points_at, stored_below, stored_next}
-
--- ---- the size of the first i points
-pub record Sized (start : Position) (xs ys : List Float) (n i : ℕ) (size : Float) : Type 0 where
-  pub most : i ≤ n
-  pub is : size ≡ size_below start (points_in xs ys n) i
-
-pub size_none : {start : Position} {xs ys : List Float} {n : ℕ} → Sized start xs ys n 0 f0
-unfolding size_below
-size_none = record { most = omega arith; is = refl }
-
-module _ {start : Position} {xs ys : List Float} {n i : ℕ} {size : Float} (s : Sized start xs ys n i size) where
-  pub size_next : i < n → {away : Float} → away ≡ from_start_of start (point_at xs ys i) → {r : Float} → r ≡ max_of size away
-      → Sized start xs ys n (i + 1) r
-  unfolding size_below
-  size_next h {away} g {r} e = record { most = omega arith; is = rw (e, add-one i, points_at xs ys n i h, s.is, g) }
-
-  pub size_all : n ≤ i → size ≡ size_of start (points_in xs ys n)
-  size_all h = s.is ∙ rw (points_length xs ys n, le_antisymm s.most h)
 
 -- ---- where the outline turns
-module _ (n i : ℕ) (h : i < n) where
+module _ (points : List Position) (i : ℕ) (h : i < length points) where
+  abbrev n : ℕ
+  n = length points
+
   pub before_lt : (i + n - 1) % n < n
   before_lt = let some : 0 < n = omega arith in mod-lt (i + n - 1) some
 
   pub after_lt : (i + 1) % n < n
   after_lt = let some : 0 < n = omega arith in mod-lt (i + 1) some
 
-  pub turns_here : (xs ys : List Float) (size : Float)
-      → turns_of (point_at xs ys ((i + n - 1) % n)) (point_at xs ys i) (point_at xs ys ((i + 1) % n)) size ≡ turns_at_of (points_in xs ys n) n size i
+  pub turns_here : (size : Float) (d : Position)
+      → turns_of (get_or points ((i + n - 1) % n) d) (get_or points i d) (get_or points ((i + 1) % n) d) size ≡ turns_at_of points n size i
   unfolding turns_at_of
-  turns_here xs ys size =
-      rw (points_at xs ys n ((i + n - 1) % n) before_lt, points_at xs ys n i h, points_at xs ys n ((i + 1) % n) after_lt)
+  turns_here size d =
+      rw (
+        get_or_default points ((i + n - 1) % n) d origin before_lt,
+        get_or_default points i d origin h,
+        get_or_default points ((i + 1) % n) d origin after_lt,
+      )
 
-count_le : (b : Bool) → count_of b ≤ 1
-count_le true = omega arith
-count_le false = omega arith
-
--- the turning points among the first i, m of them, in cx and cy
-pub record Cornered (xs ys : List Float) (n : ℕ) (size : Float) (cx cy : List Float) (m i : ℕ) : Type 0 where
-  pub most : i ≤ n
+-- the turning points among the first i, m of them
+pub record Cornered (points : List Position) (size : Float) (kept : List Position) (m i : ℕ) : Type 0 where
+  pub most : i ≤ length points
   pub few : m ≤ i
-  pub found : points_in cx cy m ≡ corners_below (points_in xs ys n) n size i
-  pub widex : length cx ≡ most_points
-  pub widey : length cy ≡ most_points
+  pub counted : m ≡ length (corners_below points (length points) size i)
+  pub found : m ≤ 4 → take m kept ≡ corners_below points (length points) size i
+  pub wide : length kept ≡ 4
 
-pub corner_none : {xs ys : List Float} {n : ℕ} {size : Float} {cx cy : List Float} → length cx ≡ most_points → length cy ≡ most_points
-    → Cornered xs ys n size cx cy 0 0
+pub corner_none : {points : List Position} {size : Float} {kept : List Position} → length kept ≡ 4 → Cornered points size kept 0 0
 unfolding corners_below
-corner_none {xs} {ys} {n} {size} {cx} {cy} a b =
-    record { most = omega arith; few = omega arith; found = points_none cx cy; widex = a; widey = b }
+corner_none wide = record { most = omega arith; few = omega arith; counted = refl; found = λ h. refl; wide = wide }
 
-module _ {xs ys : List Float} {n : ℕ} {size : Float} {cx cy : List Float} {m i : ℕ} (s : Cornered xs ys n size cx cy m i) where
-  pub corner_all : n ≤ i → Turned (points_in xs ys n) size m cx cy
-  corner_all h = record { corners = s.found ∙ rw (points_length xs ys n, le_antisymm s.most h) }
+module _ {points : List Position} {size : Float} {kept : List Position} {m i : ℕ} (s : Cornered points size kept m i) where
+  pub corner_all : length points ≤ i → Turned points size m kept
+  corner_all h =
+      let all = le_antisymm s.most h in
+      record { counted = s.counted ∙ rw all refl; corners = λ l. s.found l ∙ rw all refl }
 
-  module _ (full : n ≤ most_points) (h : i < n) where
-    abbrev cx₁ : List Float
-    cx₁ = set cx m (get_or xs i nan)
+  module _ (h : i < length points) where
+    module _ (e : turns_at_of points (length points) size i ≡ true) where
+      one_more : corners_below points (length points) size (i + 1) ≡ corners_below points (length points) size i ++ (get_or points i origin ∷ [])
+      unfolding corners_below
+      one_more = rw (add-one i, e) refl
 
-    abbrev cy₁ : List Float
-    cy₁ = set cy m (get_or ys i nan)
+      more : m + 1 ≡ length (corners_below points (length points) size (i + 1))
+      more = rw (one_more, length-append, s.counted) refl
 
-    inside : (l : List Float) → length l ≡ most_points → m < length l
-    inside l e = let a = s.few in omega arith
+      pub corner_here : m < 4 → (d : Position) → Cornered points size (set kept m (get_or points i d)) (m + 1) (i + 1)
+      corner_here l d =
+          let few = s.few in
+          let inside : m < length kept = rw s.wide l in
+          record {
+            most = omega arith;
+            few = omega arith;
+            counted = more;
+            found =
+                λ k. take_more_set kept m (get_or points i d) inside
+                ∙ rw (one_more, s.found (omega arith), get_or_default points i d origin h) refl;
+            wide = rw length-set s.wide;
+          }
 
-    corner_by : (b : Bool) → turns_at_of (points_in xs ys n) n size i ≡ b
-        → points_in cx₁ cy₁ (m + count_of b) ≡ corners_below (points_in xs ys n) n size (suc i)
-    unfolding corners_below
-    corner_by true e =
-        stored_next cx cy m (get_or xs i nan) (get_or ys i nan) (inside cx s.widex) (inside cy s.widey)
-        ∙ rw (s.found, e, points_at xs ys n i h)
-    corner_by false e =
-        let none : m + 0 ≡ m = omega arith in
-        rw none
-        (stored_below cx cy m (get_or xs i nan) (get_or ys i nan) m (le_refl m)
-        ∙ rw (s.found, e) (sym (append-nil (corners_below (points_in xs ys n) n size i))))
+      pub corner_past : 4 ≤ m → Cornered points size kept (m + 1) (i + 1)
+      corner_past l =
+          let few = s.few in
+          record { most = omega arith; few = omega arith; counted = more; found = λ k. absurd (omega arith); wide = s.wide }
 
-    pub corner_next : {t : ℕ} → t ≡ count_of (turns_at_of (points_in xs ys n) n size i) → Cornered xs ys n size cx₁ cy₁ (m + t) (i + 1)
-    corner_next {t} e =
-        let turns = turns_at_of (points_in xs ys n) n size i in
-        let one = count_le turns in
-        let few = s.few in
-        record {
-          most = omega arith;
-          few = omega arith;
-          found = rw (e, add-one i) (corner_by turns refl);
-          widex = rw length-set s.widex;
-          widey = rw length-set s.widey;
-        }
+    module _ (e : turns_at_of points (length points) size i ≡ false) where
+      no_more : corners_below points (length points) size (i + 1) ≡ corners_below points (length points) size i
+      unfolding corners_below
+      no_more = rw (add-one i, e) (append-nil (corners_below points (length points) size i))
+
+      pub corner_not : Cornered points size kept m (i + 1)
+      corner_not =
+          let few = s.few in
+          record {
+            most = omega arith;
+            few = omega arith;
+            counted = s.counted ∙ rw no_more refl;
+            found = λ k. s.found k ∙ rw no_more refl;
+            wide = s.wide;
+          }
 
 -- ---- exactly four
 
-not_four : (l : List Position) (size : Float) → (length l ≡ 4 → ⊥) → maybe.NoBox ≡ four_of l size
+not_four : (l : List Position) (size : Float) → (length l ≡ 4 → ⊥) → None ≡ four_of l size
 not_four [] size h = refl
 not_four (p ∷ []) size h = refl
 not_four (p ∷ q ∷ []) size h = refl
@@ -117,7 +108,14 @@ not_four (p ∷ q ∷ r ∷ []) size h = refl
 not_four (p ∷ q ∷ r ∷ s ∷ []) size h = absurd (h refl)
 not_four (p ∷ q ∷ r ∷ s ∷ t ∷ l) size h = refl
 
-pub not_four_in : {points : List Position} {size : Float} {m : ℕ} {cx cy : List Float} → Turned points size m cx cy → (m ≡ 4 → ⊥)
-    → maybe.NoBox ≡ four_of (corners_of points size) size
-not_four_in {points} {size} {m} {cx} {cy} t h =
-    not_four (corners_of points size) size (λ e. h (sym (points_length cx cy m) ∙ ap length t.corners ∙ e))
+pub not_four_in : {points : List Position} {size : Float} {m : ℕ} {kept : List Position} → Turned points size m kept → (m ≡ 4 → ⊥)
+    → None ≡ four_of (corners_of points size) size
+not_four_in {points} {size} t h = not_four (corners_of points size) size (λ e. h (t.counted ∙ e))
+
+-- the first four of a list
+pub first_four : (l : List Position) (d : Position) → 4 ≤ length l → take 4 l ≡ get_or l 0 d ∷ get_or l 1 d ∷ get_or l 2 d ∷ get_or l 3 d ∷ []
+first_four [] d h = absurd (omega arith)
+first_four (p ∷ []) d h = absurd (omega arith)
+first_four (p ∷ q ∷ []) d h = absurd (omega arith)
+first_four (p ∷ q ∷ r ∷ []) d h = absurd (omega arith)
+first_four (p ∷ q ∷ r ∷ s ∷ l) d h = refl

@@ -1,6 +1,6 @@
 -- shape.rs's `parallelogram`, `fit_with_cut` and `fit`. `⊕ ⊖ ⊗ ⊘` are binary32's operations, and each rounds once.
 -- Definitions only.
-use Rattle.std.specs.Prelude.{Bool, cond, ◌&&◌, List, [], ◌∷◌, ◌++◌, ℕ, zero, suc, ◌+◌, ◌-◌, ◌%◌, length, get_or, take, Float}
+use Rattle.std.specs.Prelude.{Bool, cond, ◌&&◌, List, [], ◌∷◌, ◌++◌, ℕ, zero, suc, ◌+◌, ◌-◌, ◌%◌, length, get_or, take, fold, Float, Option, Some, None}
 use Rattle.std.specs.Float.{binary32}
 use Rattle.std.specs.Float.Ieee.{of_bits, lt, le}
 use Rattle.float.specs.Ops.{◌⊕◌, ◌⊖◌, ◌⊗◌, ◌⊘◌, f0, f½}
@@ -8,13 +8,10 @@ use Rattle.float.specs.Simple.{abs_of, max_of}
 use Rattle.roots.specs.Root.{hypot_of}
 use Rattle.geometry.specs.declared.Position.{Position}
 use Rattle.shape.specs.declared.RoundedBox.{RoundedBox}
-use Rattle.shape.specs.declared.MaybeBox.{MaybeBox}
-use Rattle.shape.specs.declared.MaybeBox.TheVariants as maybe
 use Rattle.outline.specs.declared.Segment.{Segment}
 use Rattle.outline.specs.declared.Segment.TheVariants as segment
 use Rattle.outline.specs.Contour.{Contour, Walked, stopped, reached, origin, contour_of, empty_of, same_place_of, line_points_of, all_lines_of}
 use Rattle.rounded.specs.declared.Fitted.{Fitted}
-use Rattle.rounded.specs.declared.Fitted.TheVariants as fitted
 use Rattle.rounded.specs.Rounded.{rounded_of}
 use Rattle.fit.specs.declared.Corners.{Corners}
 
@@ -28,13 +25,8 @@ corner_tolerance = of_bits binary32 0x38d1_b717
 unfoldable pub from_start_of : Position → Position → Float
 from_start_of start p = max_of (abs_of (p.x ⊖ start.x)) (abs_of (p.y ⊖ start.y))
 
--- the size of the first i points
-unfoldable pub size_below : Position → List Position → ℕ → Float
-size_below start points zero = f0
-size_below start points (suc i) = max_of (size_below start points i) (from_start_of start (get_or points i origin))
-
 abbrev pub size_of : Position → List Position → Float
-size_of start points = size_below start points (length points)
+size_of start points = fold (λ size p. max_of size (from_start_of start p)) f0 points
 
 -- ---- the corners: where the outline turns
 
@@ -87,21 +79,21 @@ spanned_of u v p0 p2 =
       ry = f0;
     }
 
-unfoldable pub corners_box_of : Corners → Float → MaybeBox
+unfoldable pub corners_box_of : Corners → Float → Option RoundedBox
 corners_box_of k size =
-    cond (centred_of k size) (maybe.Box (spanned_of (half_side_of k.p0 k.p1) (half_side_of k.p0 k.p3) k.p0 k.p2)) maybe.NoBox
+    cond (centred_of k size) (Some (spanned_of (half_side_of k.p0 k.p1) (half_side_of k.p0 k.p3) k.p0 k.p2)) None
 
 -- exactly four turning points
-abbrev pub four_of : List Position → Float → MaybeBox
-four_of [] size = maybe.NoBox
-four_of (p0 ∷ []) size = maybe.NoBox
-four_of (p0 ∷ p1 ∷ []) size = maybe.NoBox
-four_of (p0 ∷ p1 ∷ p2 ∷ []) size = maybe.NoBox
+abbrev pub four_of : List Position → Float → Option RoundedBox
+four_of [] size = None
+four_of (p0 ∷ []) size = None
+four_of (p0 ∷ p1 ∷ []) size = None
+four_of (p0 ∷ p1 ∷ p2 ∷ []) size = None
 four_of (p0 ∷ p1 ∷ p2 ∷ p3 ∷ []) size = corners_box_of (record { p0 = p0; p1 = p1; p2 = p2; p3 = p3 }) size
-four_of (p0 ∷ p1 ∷ p2 ∷ p3 ∷ p4 ∷ ps) size = maybe.NoBox
+four_of (p0 ∷ p1 ∷ p2 ∷ p3 ∷ p4 ∷ ps) size = None
 
 -- RoundedBox::parallelogram, of its points
-unfoldable pub parallelogram_of : Position → List Position → MaybeBox
+unfoldable pub parallelogram_of : Position → List Position → Option RoundedBox
 parallelogram_of start points = four_of (corners_of points (size_of start points)) (size_of start points)
 
 -- ---- RoundedBox::fit_with_cut
@@ -115,32 +107,36 @@ abbrev pub points_of : Position → List Segment → List Position
 points_of start segments = start ∷ line_points_of (take (length segments - 1) segments)
 
 -- `Self::parallelogram(start, &segments).map(|shape| (shape, 0.0, None))`
-abbrev pub whole_of : MaybeBox → Fitted
-whole_of (maybe.Box b) = fitted.Whole b f0
-whole_of maybe.NoBox = fitted.NoBox
+abbrev pub whole_of : Option RoundedBox → Option Fitted
+whole_of (Some b) = Some (record { shape = b; strays = f0; cut = None })
+whole_of None = None
 
 -- all lines, or `rounded`
-unfoldable pub segments_fitted_of : Position → List Segment → Fitted
+unfoldable pub segments_fitted_of : Position → List Segment → Option Fitted
 segments_fitted_of start segments =
     cond (all_lines_of segments) (whole_of (parallelogram_of start (points_of start segments))) (rounded_of start segments)
 
 -- no start, or no segment: no contour, and no box
-unfoldable pub contour_fitted_of : Contour → Fitted
-contour_fitted_of k = cond k.started (cond (empty_of (closed_of k)) fitted.NoBox (segments_fitted_of k.start (closed_of k))) fitted.NoBox
+unfoldable pub contour_fitted_of : Contour → Option Fitted
+contour_fitted_of k = cond k.started (cond (empty_of (closed_of k)) None (segments_fitted_of k.start (closed_of k))) None
 
-abbrev pub walked_fitted_of : Walked → Fitted
-walked_fitted_of stopped = fitted.NoBox
+abbrev pub walked_fitted_of : Walked → Option Fitted
+walked_fitted_of stopped = None
 walked_fitted_of (reached k) = contour_fitted_of k
 
-unfoldable pub fit_with_cut_of : List ℕ → List Float → Fitted
+unfoldable pub fit_with_cut_of : List ℕ → List Float → Option Fitted
 fit_with_cut_of verbs positions = walked_fitted_of (contour_of verbs positions)
 
 -- ---- RoundedBox::fit: `(shape, strays, None) => Some((shape, strays)), _ => None`, then the box alone
 
-abbrev pub box_alone : Fitted → MaybeBox
-box_alone (fitted.Whole b strays) = maybe.Box b
-box_alone (fitted.Cut b strays cut) = maybe.NoBox
-box_alone fitted.NoBox = maybe.NoBox
+-- what is told of a box where nothing cuts it
+abbrev pub uncut : {A : Type 0} → Option RoundedBox → A → Option A
+uncut None told = Some told
+uncut (Some by) told = None
 
-unfoldable pub fit_of : List ℕ → List Float → MaybeBox
+abbrev pub box_alone : Option Fitted → Option RoundedBox
+box_alone (Some f) = uncut f.cut f.shape
+box_alone None = None
+
+unfoldable pub fit_of : List ℕ → List Float → Option RoundedBox
 fit_of verbs positions = box_alone (fit_with_cut_of verbs positions)

@@ -6,52 +6,39 @@
 #![tactic(auto)]
 
 ghost use Rattle.std.specs.Prelude.{◌≡◌, ◌<◌, ◌≤◌, ◌+◌, length};
-ghost use Rattle.outline.specs.Outline.{floats_needed_of, most_verbs, most_points};
+ghost use Rattle.outline.specs.Outline.{most_verbs, most_points};
 ghost use Rattle.outline.specs.Contour.{Contour, reached, contour_of};
-ghost use Rattle.outline.specs.Kept.{walk_of, point_at, points_in, count_of, EndedAt};
+ghost use Rattle.outline.specs.Kept.{walk_of, count_of, Ended};
 ghost use Rattle.rounded.specs.Rounded.{rounded_of};
 ghost use Rattle.fit.specs.Fit.{from_start_of, size_of, cross_of, turns_of, turns_at_of, close_of, centred_of};
 ghost use Rattle.fit.specs.Fit.{spanned_of, corners_box_of, parallelogram_of, half_side_of};
-ghost use Rattle.fit.specs.Fit.{closed_of, whole_of, contour_fitted_of, fit_with_cut_of, box_alone, fit_of};
-ghost use Rattle.fit.specs.Calls.{outline_answer, cut_answer, fit_call, fit_outline_call, fit_with_cut_call};
-ghost use Rattle.fit.specs.Kept.{Turned, ClosedCount};
+ghost use Rattle.fit.specs.Fit.{closed_of, whole_of, walked_fitted_of, fit_with_cut_of, fit_of};
+ghost use Rattle.fit.specs.Calls.{outline_answer, fit_call, fit_outline_call, fit_with_cut_call};
+ghost use Rattle.fit.specs.Kept.{Turned, ClosedCount, Reached};
 
-use fault::{Check, Fault};
+use fault::Fault;
 use geometry::{Position, Transform2D};
-use outline::{MOST_POINTS, Piece, Segment, Step, Walk};
+use outline::{MOST_POINTS, ORIGIN, Outline, Segment, Walk};
 use rounded::Fitted;
-use shape::{BoxAnswer, MaybeBox, RoundedBox};
+use shape::RoundedBox;
 
 // ---- the parallelogram
 
-// Point i of two lists of numbers.
-fn point_at(xs: &[f32; MOST_POINTS], ys: &[f32; MOST_POINTS], i: usize) -> Position
-    requires { i < most_points }
-    ensures { result ≡ point_at xs.now ys.now i }
-{
-    Position { x: xs[i], y: ys[i] }
-}
-
 // How far a point is from the start, along the further axis.
+#[tactic(auto, unfolding(crate::specs::Fit::from_start_of))]
 fn from_start(start: Position, p: Position) -> f32
     ensures { result ≡ from_start_of start p }
 {
     float::max(float::abs(p.x - start.x), float::abs(p.y - start.y))
 }
 
-// The size of an outline of n points.
-fn size(start: Position, xs: &[f32; MOST_POINTS], ys: &[f32; MOST_POINTS], n: usize) -> f32
-    requires { n ≤ most_points }
-    ensures { result ≡ size_of start (points_in xs.now ys.now n) }
+// The size of an outline.
+fn size(start: Position, points: &[Position]) -> f32
+    ensures { result ≡ size_of start points.now }
 {
-    let mut size: f32 = 0.0;
-    let mut i: usize = 0;
-    while i < n {
-        let p = point_at(xs, ys, i);
-        size = float::max(size, from_start(start, p));
-        i += 1;
-    }
-    size
+    points
+        .iter()
+        .fold(0.0, |size, p| float::max(size, from_start(start, *p)))
 }
 
 // Four corners in order around a parallelogram.
@@ -68,6 +55,7 @@ impl Corners {
     const CORNER_TOLERANCE: f32 = 1e-4;
 
     // Twice the area of a triangle, with its sign.
+    #[tactic(auto, unfolding(crate::specs::Fit::cross_of))]
     fn cross(a: Position, b: Position, c: Position) -> f32
         ensures { result ≡ cross_of a b c }
     {
@@ -75,12 +63,14 @@ impl Corners {
     }
 
     // Whether an outline turns at b, between a and c.
+    #[tactic(auto, unfolding(crate::specs::Fit::turns_of))]
     fn turns(a: Position, b: Position, c: Position, size: f32) -> bool
         ensures { result ≡ turns_of a b c size }
     {
         float::abs(Self::cross(a, b, c)) > Self::CORNER_TOLERANCE * size * size
     }
 
+    #[tactic(auto, unfolding(crate::specs::Fit::close_of))]
     fn close(a: f32, b: f32, size: f32) -> bool
         ensures { result ≡ close_of a b size }
     {
@@ -88,13 +78,11 @@ impl Corners {
     }
 
     // Whether the two diagonals have one middle.
+    #[tactic(auto, unfolding(crate::specs::Fit::centred_of))]
     fn centred(self, size: f32) -> bool
         ensures { result ≡ centred_of self size }
     {
-        let p0 = self.p0;
-        let p1 = self.p1;
-        let p2 = self.p2;
-        let p3 = self.p3;
+        let Self { p0, p1, p2, p3 } = self;
         Self::close(p0.x + p2.x, p1.x + p3.x, size) && Self::close(p0.y + p2.y, p1.y + p3.y, size)
     }
 
@@ -108,6 +96,7 @@ impl Corners {
     }
 
     // The box with the half sides u and v, and p0 and p2 opposite each other.
+    #[tactic(auto, unfolding(crate::specs::Fit::spanned_of))]
     fn spanned(u: Position, v: Position, p0: Position, p2: Position) -> RoundedBox
         ensures { result ≡ spanned_of u v p0 p2 }
     {
@@ -131,104 +120,75 @@ impl Corners {
     }
 
     #[tactic(auto, unfolding(crate::specs::Fit::corners_box_of))]
-    fn parallelogram(self, size: f32) -> MaybeBox
+    fn parallelogram(self, size: f32) -> Option<RoundedBox>
         ensures { result ≡ corners_box_of self size }
     {
         if !self.centred(size) {
-            return MaybeBox::NoBox;
+            return None;
         }
-        let p0 = self.p0;
-        let p1 = self.p1;
-        let p2 = self.p2;
-        let p3 = self.p3;
+        let Self { p0, p1, p2, p3 } = self;
         let u = Self::half_side(p0, p1);
         let v = Self::half_side(p0, p3);
-        MaybeBox::Box(Self::spanned(u, v, p0, p2))
+        Some(Self::spanned(u, v, p0, p2))
     }
 }
 
 // Whether the outline turns at point i.
-fn turns_at(xs: &[f32; MOST_POINTS], ys: &[f32; MOST_POINTS], n: usize, size: f32, i: usize) -> bool
-    requires { (n ≤ most_points) × (i < n) }
-    ensures { result ≡ turns_at_of (points_in xs.now ys.now n) n size i }
+fn turns_at(points: &[Position], size: f32, i: usize) -> bool
+    requires { (length points.now ≤ most_points) × (i < length points.now) }
+    ensures { result ≡ turns_at_of points.now (length points.now) size i }
 {
-    let before = (i + n - 1) % n;
-    let after = (i + 1) % n;
-    let a = point_at(xs, ys, before);
-    let b = point_at(xs, ys, i);
-    let c = point_at(xs, ys, after);
-    Corners::turns(a, b, c, size)
+    let n = points.len();
+    let before = points[(i + n - 1) % n];
+    let after = points[(i + 1) % n];
+    Corners::turns(before, points[i], after, size)
 }
 
-// 1 where the outline turns at point i, and else 0.
-fn turn(xs: &[f32; MOST_POINTS], ys: &[f32; MOST_POINTS], n: usize, size: f32, i: usize) -> usize
-    requires { (n ≤ most_points) × (i < n) }
-    ensures { result ≡ count_of (turns_at_of (points_in xs.now ys.now n) n size i) }
-{
-    if turns_at(xs, ys, n, size, i) {
-        return 1;
-    }
-    0
-}
-
-// The points at which the outline turns go to cx and cy; answered is how many.
-fn turning_points(
-    xs: &[f32; MOST_POINTS],
-    ys: &[f32; MOST_POINTS],
-    n: usize,
-    size: f32,
-    cx: &mut [f32; MOST_POINTS],
-    cy: &mut [f32; MOST_POINTS],
-) -> usize
-    requires n_le_most_points { n ≤ most_points }
-    requires cx_len { (length cx.old ≡ most_points) × (length cy.old ≡ most_points) }
-    ensures { Turned (points_in xs.now ys.now n) size result cx.new cy.new }
+// At how many points the outline turns; the first four of them go to `corners`.
+fn turning_points(points: &[Position], size: f32, corners: &mut [Position; 4]) -> usize
+    requires { length points.now ≤ most_points }
+    ensures { Turned points.now size result corners.new }
 {
     let mut m: usize = 0;
-    let mut i: usize = 0;
-    while i < n {
-        // kept where the outline turns, and else written over
-        cx[m] = xs[i];
-        cy[m] = ys[i];
-        m += turn(xs, ys, n, size, i);
-        i += 1;
+    for (i, p) in points.iter().enumerate() {
+        if turns_at(points, size, i) {
+            if m < 4 {
+                corners[m] = *p;
+            }
+            m += 1;
+        }
     }
     m
 }
 
-fn parallelogram(
-    start: Position,
-    xs: &[f32; MOST_POINTS],
-    ys: &[f32; MOST_POINTS],
-    n: usize,
-) -> MaybeBox
-    requires { n ≤ most_points }
-    ensures { result ≡ parallelogram_of start (points_in xs.now ys.now n) }
+fn parallelogram(start: Position, points: &[Position]) -> Option<RoundedBox>
+    requires { length points.now ≤ most_points }
+    ensures { result ≡ parallelogram_of start points.now }
 {
-    let size = size(start, xs, ys, n);
-    let mut cx = [0.0f32; MOST_POINTS];
-    let mut cy = [0.0f32; MOST_POINTS];
-    let m = turning_points(xs, ys, n, size, &mut cx, &mut cy);
+    let size = size(start, points);
+    let mut corners = [ORIGIN; 4];
+    let m = turning_points(points, size, &mut corners);
     if m != 4 {
-        return MaybeBox::NoBox;
+        return None;
     }
-    let p0 = point_at(&cx, &cy, 0);
-    let p1 = point_at(&cx, &cy, 1);
-    let p2 = point_at(&cx, &cy, 2);
-    let p3 = point_at(&cx, &cy, 3);
+    let [p0, p1, p2, p3] = corners;
     Corners { p0, p1, p2, p3 }.parallelogram(size)
 }
 
 // ---- the box of a contour
 
 // A parallelogram's outline does not stray.
-fn whole(found: MaybeBox) -> Fitted
+fn whole(found: Option<RoundedBox>) -> Option<Fitted>
     ensures { result ≡ whole_of found }
 {
-    let MaybeBox::Box(b) = found else {
-        return Fitted::NoBox;
+    let Some(shape) = found else {
+        return None;
     };
-    Fitted::Whole(b, 0.0)
+    Some(Fitted {
+        shape,
+        strays: 0.0,
+        cut: None,
+    })
 }
 
 // How many segments a contour has once it is closed, by a line where it is not back at its start.
@@ -237,173 +197,118 @@ fn closed_count(walk: Walk) -> usize
     ensures { ClosedCount walk result }
 {
     let n = walk.count;
-    let start = Position {
-        x: walk.sx,
-        y: walk.sy,
-    };
-    let last = Position {
-        x: walk.lx,
-        y: walk.ly,
-    };
-    if outline::same_place(last, start) {
+    if outline::same_place(walk.last, walk.start) {
         return n;
     }
     n + 1
 }
 
-// The box of a closed contour of n segments, one of them a curve. The closing line is stored in either
-// case, and past the segments where the contour is back at its start.
-fn curved(verbs: &[u8], positions: &[f32], walk: Walk, n: usize) -> Fitted
-    requires verbs_len_bound { length verbs.now ≤ most_verbs }
-    requires verbs_value { floats_needed_of verbs.now ≡ length positions.now }
-    requires count_lt_most_verbs { (walk.count < most_verbs) × (n ≤ most_verbs) }
-    ensures { (k : Contour) → contour_of verbs.now positions.now ≡ reached k → walk ≡ walk_of k → n ≡ length (closed_of k)
+// The box of a contour once it is closed, where one of its segments is a curve.
+fn curved(outline: Outline, walk: Walk) -> Option<Fitted>
+    requires count_lt_most_verbs { walk.count < most_verbs }
+    requires reached { Reached (contour_of outline.verbs.now outline.positions.now) walk }
+    ensures { (k : Contour) → contour_of outline.entry.verbs.now outline.entry.positions.now ≡ reached k → walk ≡ walk_of k
         → result ≡ rounded_of k.start (closed_of k) }
 {
-    let x = walk.sx;
-    let y = walk.sy;
-    let at = walk.count;
-    let list = outline::segments(verbs, positions);
-    let mut all = list.pieces;
-    let segment = Segment::Line(x, y);
-    all[at] = Piece { segment };
-    rounded::rounded(Position { x, y }, all, n)
+    let start = walk.start;
+    let mut segments = outline::segments(outline);
+    if !outline::same_place(walk.last, start) {
+        segments.push(Segment::Line(start.x, start.y));
+    }
+    rounded::rounded(start, &segments)
 }
 
 // The box of a contour once it is closed.
-fn closed(
-    verbs: &[u8],
-    positions: &[f32],
-    walk: Walk,
-    xs: &[f32; MOST_POINTS],
-    ys: &[f32; MOST_POINTS],
-) -> Fitted
-    requires verbs_len_bound { length verbs.now ≤ most_verbs }
-    requires verbs_value { floats_needed_of verbs.now ≡ length positions.now }
-    requires started_bound { walk.count + count_of walk.started ≤ most_verbs }
-    ensures { (k : Contour) → contour_of verbs.now positions.now ≡ reached k
-        → EndedAt k (Step.Go walk) xs.now ys.now → result ≡ contour_fitted_of k }
+fn closed(outline: Outline, walk: Walk, points: &[Position; MOST_POINTS]) -> Option<Fitted>
+    requires ended { Ended (contour_of outline.verbs.now outline.positions.now) (Some walk) points.now }
+    ensures { result ≡ walked_fitted_of (contour_of outline.entry.verbs.now outline.entry.positions.now) }
 {
     if !walk.started {
-        return Fitted::NoBox;
+        return None;
     }
     let n = closed_count(walk);
     if n == 0 {
-        return Fitted::NoBox;
+        return None;
     }
     if !walk.straight {
-        return curved(verbs, positions, walk, n);
+        return curved(outline, walk);
     }
-    let start = Position {
-        x: walk.sx,
-        y: walk.sy,
-    };
-    whole(parallelogram(start, xs, ys, n))
+    whole(parallelogram(walk.start, &points[..n]))
 }
 
 #[tactic(auto, unfolding(crate::specs::Fit::fit_with_cut_of))]
-fn fit_with_cut_unchecked(verbs: &[u8], positions: &[f32]) -> Fitted
-    requires verbs_len_bound { length verbs.now ≤ most_verbs }
-    requires verbs_value { floats_needed_of verbs.now ≡ length positions.now }
-    ensures { result ≡ fit_with_cut_of verbs.now positions.now }
+fn fit_with_cut_unchecked(outline: Outline) -> Option<Fitted>
+    ensures { result ≡ fit_with_cut_of outline.entry.verbs.now outline.entry.positions.now }
 {
-    let mut xs = [0.0f32; MOST_POINTS];
-    let mut ys = [0.0f32; MOST_POINTS];
-    let Step::Go(walk) = outline::contour(verbs, positions, &mut xs, &mut ys) else {
-        return Fitted::NoBox;
+    let mut points = [ORIGIN; MOST_POINTS];
+    let Some(walk) = outline::contour(outline, &mut points) else {
+        return None;
     };
-    closed(verbs, positions, walk, &xs, &ys)
+    closed(outline, walk, &points)
 }
 
 // ---- the calls
 
-#[derive(Clone, Copy)]
-pub enum OutlineAnswer {
-    // a box and its strays
-    Outline(RoundedBox, f32),
-    NoBox,
-    Refused(Fault),
-}
-
-#[derive(Clone, Copy)]
-pub enum CutAnswer {
-    Whole(RoundedBox, f32),
-    // a box, its strays, and the box that cuts it
-    Cut(RoundedBox, f32, RoundedBox),
-    NoBox,
-    Refused(Fault),
-}
-
-fn cut_answer(found: Fitted) -> CutAnswer
-    ensures { result ≡ cut_answer found }
+// The box and its strays, where it is not cut.
+fn fit_outline_unchecked(outline: Outline) -> Option<(RoundedBox, f32)>
+    ensures { result ≡ outline_answer (fit_with_cut_of outline.entry.verbs.now outline.entry.positions.now) }
 {
-    match found {
-        Fitted::Whole(b, strays) => CutAnswer::Whole(b, strays),
-        Fitted::Cut(b, strays, cut) => CutAnswer::Cut(b, strays, cut),
-        Fitted::NoBox => CutAnswer::NoBox,
-    }
+    let Some(
+        Fitted {
+            shape,
+            strays,
+            cut: None,
+        },
+    ) = fit_with_cut_unchecked(outline)
+    else {
+        return None;
+    };
+    Some((shape, strays))
 }
 
-fn outline_answer(found: Fitted) -> OutlineAnswer
-    ensures { result ≡ outline_answer found }
+#[tactic(auto, unfolding(crate::specs::Fit::fit_of))]
+pub fn fit_unchecked(outline: Outline) -> Option<RoundedBox>
+    ensures { result ≡ fit_of outline.entry.verbs.now outline.entry.positions.now }
 {
-    match found {
-        Fitted::Whole(b, strays) => OutlineAnswer::Outline(b, strays),
-        Fitted::Cut(_, _, _) => OutlineAnswer::NoBox,
-        Fitted::NoBox => OutlineAnswer::NoBox,
-    }
-}
-
-fn box_alone(found: Fitted) -> MaybeBox
-    ensures { result ≡ box_alone found }
-{
-    match found {
-        Fitted::Whole(b, _) => MaybeBox::Box(b),
-        Fitted::Cut(_, _, _) => MaybeBox::NoBox,
-        Fitted::NoBox => MaybeBox::NoBox,
-    }
-}
-
-pub fn fit_unchecked(verbs: &[u8], positions: &[f32]) -> MaybeBox
-    requires verbs_len_bound { length verbs.now ≤ most_verbs }
-    requires verbs_value { floats_needed_of verbs.now ≡ length positions.now }
-    ensures { result ≡ fit_of verbs.now positions.now }
-{
-    box_alone(fit_with_cut_unchecked(verbs, positions))
+    let Some(
+        Fitted {
+            shape,
+            cut: None,
+            ..
+        },
+    ) = fit_with_cut_unchecked(outline)
+    else {
+        return None;
+    };
+    Some(shape)
 }
 
 // The box that an outline draws, its strays, and for a rectangle with the two corners of one side round
 // the box that cuts it there.
 // Ruled out: strays without the tenth on top; the cut found from another side.
-pub fn fit_with_cut(verbs: &[u8], positions: &[f32]) -> CutAnswer
+pub fn fit_with_cut(verbs: &[u8], positions: &[f32]) -> Result<Option<Fitted>, Fault>
     ensures { result ≡ fit_with_cut_call verbs.now positions.now }
 {
-    if let Check::Refused(fault) = outline::outline_check(verbs, positions) {
-        return CutAnswer::Refused(fault);
-    }
-    cut_answer(fit_with_cut_unchecked(verbs, positions))
+    let outline = Outline::checked(verbs, positions)?;
+    Ok(fit_with_cut_unchecked(outline))
 }
 
 // The box that an outline draws and how far the outline strays outside it; none where it is cut.
 // Ruled out: a cut's first box; strays of -0 for a straight outline.
-pub fn fit_outline(verbs: &[u8], positions: &[f32]) -> OutlineAnswer
+pub fn fit_outline(verbs: &[u8], positions: &[f32]) -> Result<Option<(RoundedBox, f32)>, Fault>
     ensures { result ≡ fit_outline_call verbs.now positions.now }
 {
-    if let Check::Refused(fault) = outline::outline_check(verbs, positions) {
-        return OutlineAnswer::Refused(fault);
-    }
-    outline_answer(fit_with_cut_unchecked(verbs, positions))
+    let outline = Outline::checked(verbs, positions)?;
+    Ok(fit_outline_unchecked(outline))
 }
 
 // The box that an outline draws, if it is one: a single contour that goes once around a parallelogram,
 // or around an upright rounded rectangle or ellipse.
 // Ruled out: a box for an outline with a fifth corner; no box for a thin one, whose turns pass 1e-4 of
 // the size squared and not 1e-4 of the size; a cut's first box.
-pub fn fit(verbs: &[u8], positions: &[f32]) -> BoxAnswer
+pub fn fit(verbs: &[u8], positions: &[f32]) -> Result<Option<RoundedBox>, Fault>
     ensures { result ≡ fit_call verbs.now positions.now }
 {
-    if let Check::Refused(fault) = outline::outline_check(verbs, positions) {
-        return BoxAnswer::Refused(fault);
-    }
-    fit_unchecked(verbs, positions).answer()
+    let outline = Outline::checked(verbs, positions)?;
+    Ok(fit_unchecked(outline))
 }

@@ -2,6 +2,7 @@
 -- crates above. Controls: closed cases.
 pub mod Tests
 pub mod Simple
+pub mod Methods
 pub mod Pattern
 pub mod Shift
 pub mod Fields

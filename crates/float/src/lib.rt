@@ -1,8 +1,8 @@
-// Float helpers that the language lacks. Each contract gives the result outright, for every
+// Float helpers. Each contract gives the result outright, for every
 // argument, as a definition of specs/ over the logic's account of IEEE 754 (Rattle.std.specs.Float.Ieee).
 #![tactic(auto)]
 
-ghost use Rattle.std.specs.Prelude.{◌≡◌, ◌^◌, ◌<◌, ◌≤◌, min as smallerOf, false, T, ◌⊎◌};
+ghost use Rattle.std.specs.Prelude.{◌≡◌, ◌^◌, ◌<◌, ◌≤◌, min, false, T, ◌⊎◌};
 ghost use Rattle.std.specs.Float.{inf, binary32, binary64};
 ghost use Rattle.std.specs.Float.Ieee.{units};
 ghost use Rattle.std.specs.Float.Ieee.Scale.{finite};
@@ -10,47 +10,36 @@ ghost use Rattle.float.specs.Simple.{abs_of, min_of, max_of, signum_of};
 ghost use Rattle.float.specs.Arctan.{ratio_of, eighth_of, steep_of, behind_of, under_of, atan2_of};
 ghost use Rattle.float.specs.Parts.{Fields, Unpacked, pattern_of};
 
-// No constant can be an infinity, so it is a function.
 pub fn infinity() -> f32
     ensures { result ≡ inf false }
 {
-    1.0 / 0.0
+    f32::INFINITY
 }
 
 // The size of x. A zero comes back as +0.
 pub fn abs(x: f32) -> f32
     ensures { result ≡ abs_of x }
 {
-    if x < 0.0 {
-        return -x;
-    }
-    if x == 0.0 {
-        return 0.0;
-    }
-    x
+    x.abs()
 }
 
 // x, unless y is strictly larger or x is a NaN.
+#[tactic(auto, unfolding(crate::specs::Simple::max_of))]
 pub fn max(x: f32, y: f32) -> f32
     ensures { result ≡ max_of x y }
 {
-    if x != x {
-        return y;
-    }
-    if x < y {
+    if x.is_nan() || x < y {
         return y;
     }
     x
 }
 
 // x, unless y is strictly smaller or x is a NaN.
+#[tactic(auto, unfolding(crate::specs::Simple::min_of))]
 pub fn min(x: f32, y: f32) -> f32
     ensures { result ≡ min_of x y }
 {
-    if x != x {
-        return y;
-    }
-    if y < x {
+    if x.is_nan() || y < x {
         return y;
     }
     x
@@ -60,30 +49,14 @@ pub fn min(x: f32, y: f32) -> f32
 pub fn signum(x: f32) -> f32
     ensures { result ≡ signum_of x }
 {
-    if x < 0.0 {
-        return -1.0;
-    }
-    if x > 0.0 {
-        return 1.0;
-    }
-    if x == 0.0 {
-        if 1.0 / x < 0.0 {
-            return -1.0;
-        }
-        return 1.0;
-    }
-    x
+    x.signum()
 }
 
 // Whether x is neither a NaN nor an infinity.
 pub fn is_finite(x: f32) -> bool
     ensures { result ≡ finite x }
 {
-    let top = infinity();
-    if x < top {
-        return -top < x;
-    }
-    false
+    x.is_finite()
 }
 
 // x at the wider format, which holds every f32. A NaN stays a NaN.
@@ -141,12 +114,9 @@ pub fn unpack64(x: f64) -> Parts
 }
 
 pub fn smaller(a: u64, b: u64) -> u64
-    ensures { result ≡ smallerOf a b }
+    ensures { result ≡ min a b }
 {
-    if a < b {
-        return a;
-    }
-    b
+    a.min(b)
 }
 
 // The bit pattern with `size` below the sign, and an infinity's from `infinite` on.

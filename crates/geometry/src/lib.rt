@@ -7,7 +7,7 @@ ghost use Rattle.geometry.specs.Frame.{identity_frame, translation_of, product_o
 ghost use Rattle.geometry.specs.Frame.{inverse_of, transform_point_of, no_bounds, with_point_of, from_points_of};
 
 // A point. The Rust's `transform_point` answers a pair.
-#[derive(Clone, Copy)]
+#[derive(Clone, Copy, Default, PartialEq)]
 pub struct Position {
     pub x: f32,
     pub y: f32,

@@ -1,14 +1,14 @@
 -- Lent buffers, cleared for a drawing. Assumes nothing.
 use mathlib.Core.Path.{◌≡◌, sym, ap, ◌∙◌}
 use mathlib.Core.List.{List, ◌++◌}
-use Prim.Native.Nat.{ℕ, ◌+◌, ◌-◌, ◌≤◌}
+use Prim.Native.Nat.{ℕ}
 use native.Mathlib.Omega.{arith}
 use lib.ListN.{length, take, drop, replicate, length-replicate}
 use lib.Seq.{take_at, length-take-le, length_front}
 use lib.Ieee.{Float}
 use Rattle.float.specs.Ops.{f0}
 use Rattle.cells.specs.declared.Size.{Size}
-use Rattle.cells.proofs.Cleared.{take_alike}
+use Rattle.std.proofs.lemmas.List.{take-replicate}
 use Rattle.coverage.specs.Scratch.{counters_needed, Room, Clean}
 use Rattle.coverage.proofs.Groups.{room_same}
 
@@ -37,11 +37,8 @@ module _ {mask : List ℕ} {fs : List Float} {cs : List ℕ} {size : Size} {poin
     pub cleared_clean : Clean (zs ++ drop size.width fs) ds size
     cleared_clean = record {
       cells = take_at zs (drop size.width fs) size.width zs_long ∙ z ∙ ap (λ (n : ℕ). replicate n f0) (sym prefix);
-      counts = ap (take (counters_needed size)) d ∙ alike (counters_needed size) room.counters_enough;
+      counts = ap (take (counters_needed size)) d ∙ take-replicate (counters_needed size) (length cs) 0 room.counters_enough;
     }
-      where
-        alike : (n : ℕ) → n ≤ length cs → take n (replicate (length cs) 0) ≡ replicate {A = ℕ} n 0
-        alike n h = let e : length cs ≡ n + (length cs - n) = omega arith in ap (λ (k : ℕ). take n (replicate k 0)) e ∙ take_alike n (length cs - n) 0
 
     pub cleared_zeros : mask₂ ≡ replicate (length mask₂) 0
     cleared_zeros = m ∙ ap (λ (n : ℕ). replicate n 0) (sym mask_long)

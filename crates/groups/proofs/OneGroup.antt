@@ -8,8 +8,7 @@ use lib.IntN.{ℤ, pos}
 use lib.ListN.{length, get_or, drop}
 use lib.Ieee.{Float}
 use Rattle.fault.specs.declared.Fault.{Fault}
-use Rattle.word_reader.specs.declared.Counted.{Counted}
-use Rattle.word_reader.specs.declared.Counted.TheVariants as counted
+use Rattle.std.specs.Prelude.{Result, Ok, Err}
 use Rattle.word_list.specs.Words.{Point, Group, is_zero, read_count, read_contours, read_group, read_or, points_of}
 use Rattle.word_reader.specs.Reader.{counted_of}
 use Rattle.words.specs.Scan.{Fine, end_of}
@@ -23,10 +22,10 @@ use Rattle.coverage.specs.Resolving.{GroupStored, SomeGroupStored}
 use Rattle.coverage.proofs.Groups.{group_stored, still_clean, room_same}
 use Rattle.groups.specs.Steps.{group_at, GroupFine}
 
-same_count : {r : Counted} {m n : ℕ} → r ≡ counted.Count m → r ≡ counted.Count n → m ≡ n
+same_count : {r : Result ℕ Fault} {m n : ℕ} → r ≡ Ok m → r ≡ Ok n → m ≡ n
 same_count e f = cc
 
-not_refused : {r : Counted} {m : ℕ} {f : Fault} → r ≡ counted.Count m → r ≡ counted.Refused f → ⊥
+not_refused : {r : Result ℕ Fault} {m : ℕ} {f : Fault} → r ≡ Ok m → r ≡ Err f → ⊥
 not_refused e f = let z : ◌≡◌ {A = ℕ} 0 1 = cc in omega arith
 
 -- a group at a place, whose count word is n
@@ -35,14 +34,14 @@ pub record GroupRead (ws : List ℤ) (at n : ℕ) : Type 0 where
   pub same : n ≡ there.count
 
 -- what was read as its count word is a count
-module _ {ws : List ℤ} {at points : ℕ} (g : GroupFine ws at points) {r : Counted} (is : r ≡ counted_of (read_count (drop (at + 1) ws))) where
+module _ {ws : List ℤ} {at points : ℕ} (g : GroupFine ws at points) {r : Result ℕ Fault} (is : r ≡ counted_of (read_count (drop (at + 1) ws))) where
   there : GroupThere ws at
   there = group_there ws at g.inside g.fine
 
-  pub group_read : {n : ℕ} → r ≡ counted.Count n → GroupRead ws at n
+  pub group_read : {n : ℕ} → r ≡ Ok n → GroupRead ws at n
   group_read e = record { there = there; same = same_count e (is ∙ there.read) }
 
-  pub group_counted : {f : Fault} → r ≡ counted.Refused f → ⊥
+  pub group_counted : {f : Fault} → r ≡ Err f → ⊥
   group_counted e = not_refused (is ∙ there.read) e
 
 -- n contours from a place on

@@ -15,7 +15,6 @@ ghost use Rattle.coverage.specs.Resolving.{rows_added};
 ghost use Rattle.groups.specs.Steps.{ListCounted, GroupFine, group_at};
 
 use cells::Size;
-use word_reader::Counted;
 
 // Adds the group whose words start at `at`, and keeps the mask's ink. Returns where the next starts.
 fn draw_group(
@@ -38,8 +37,7 @@ fn draw_group(
     ensures ink_kept_2 { InkKept size mask.new ink.new }
 {
     let head = word_reader::head_at(words, at);
-    let contours = head.contours;
-    let Counted::Count(n) = contours else {
+    let Ok(n) = head.contours else {
         return at;
     };
     let stored = contour::contours(words, at + 2, n, floats, size.width, size.height);
@@ -100,11 +98,11 @@ pub fn draw(
     ensures ink_after { ink.new ≡ ink_of_rows size mask.new }
 {
     let width = size.width;
-    cells::clear_bytes(mask);
-    ink::clear(ink);
-    cells::clear_floats(&mut floats[..width]);
-    cells::clear_counters(counters);
+    mask.fill(0);
+    ink.fill(0);
+    floats[..width].fill(0.0);
+    counters.fill(0);
     draw_groups(mask, ink, floats, counters, size, points, words);
-    cells::clear_floats(floats);
-    cells::clear_counters(counters);
+    floats.fill(0.0);
+    counters.fill(0);
 }

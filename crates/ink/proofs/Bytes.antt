@@ -1,7 +1,8 @@
--- Columns that a scan may pass, and bytes or-ed. Assumes nothing.
+-- Columns that a scan may pass, bytes or-ed, and the lesser and the greater of two. Assumes nothing.
 use mathlib.Core.Path.{◌≡◌, sym, ap, ◌∙◌}
 use mathlib.Core.List.{List}
-use Prim.Native.Nat.{ℕ, ◌+◌, ◌-◌, ◌≤◌, ◌<◌}
+use mathlib.Core.Logic.{◌⊎◌, inl, inr}
+use Prim.Native.Nat.{ℕ, ◌+◌, ◌-◌, ◌≤◌, ◌<◌, min, max}
 use native.Mathlib.Decide.{dec_lt}
 use native.Mathlib.Omega.{arith}
 use lib.Bits.{bit_or, or_add_and, and_le_l, and_le_r}
@@ -15,6 +16,20 @@ or_none a b e =
     let l = and_le_l a b in
     let r = and_le_r a b in
     (omega arith, omega arith)
+
+pub min_either : (a b : ℕ) → (min a b ≡ a) ⊎ (min a b ≡ b)
+min_either a b = go (dec_lt a b)
+  where
+    go : Dec (a < b) → (min a b ≡ a) ⊎ (min a b ≡ b)
+    go (yes h) = inl (omega arith)
+    go (no h) = inr (omega arith)
+
+pub max_either : (a b : ℕ) → (max a b ≡ a) ⊎ (max a b ≡ b)
+max_either a b = go (dec_lt a b)
+  where
+    go : Dec (a < b) → (max a b ≡ a) ⊎ (max a b ≡ b)
+    go (yes h) = inr (omega arith)
+    go (no h) = inl (omega arith)
 
 -- none, some and some more
 pub passed_none : {line : List ℕ} {at : ℕ} → at ≤ length line → Passed line at at
@@ -36,13 +51,6 @@ passed_one {line} at h z = record {
   within = omega arith;
   blanks = λ k l m. (let e : k ≡ at = omega arith in ap (λ (i : ℕ). get_or line i 0) e ∙ z);
 }
-
-pub passed_back : {line : List ℕ} {to : ℕ} (at : ℕ) → 0 < at → get_or line (at - 1) 0 ≡ 0 → Passed line at to → Passed line (at - 1) to
-passed_back {line} {to} at h z p =
-    let u = p.up in
-    let w = p.within in
-    let e : at - 1 + 1 ≡ at = omega arith in
-    passed_more (rw e at (passed_one {line = line} (at - 1) (omega arith) z)) p
 
 -- in a part of a line
 module _ (line : List ℕ) (from to : ℕ) (room : to ≤ length line) (up : from ≤ to) where

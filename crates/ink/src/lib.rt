@@ -38,10 +38,8 @@ fn blank(bytes: &[u8]) -> bool
     ensures { result ≡ true → Blanks bytes.now 0 (length bytes.now) }
 {
     let mut all = 0;
-    let mut i = 0;
-    while i < bytes.len() {
-        all = all | bytes[i];
-        i += 1;
+    for byte in bytes {
+        all = all | *byte;
     }
     all == 0
 }
@@ -53,18 +51,6 @@ fn column_if(byte: u8, column: u8, none: u8) -> u8
     if byte == 0 { none } else { column }
 }
 
-fn lesser(a: u8, b: u8) -> u8
-    ensures { (result ≤ a) × (result ≤ b) }
-{
-    if b < a { b } else { a }
-}
-
-fn greater(a: u8, b: u8) -> u8
-    ensures { (a ≤ result) × (b ≤ result) × ((result ≡ a) ⊎ (result ≡ b)) }
-{
-    if a < b { b } else { a }
-}
-
 // The bytes of a block before its first with ink, all told without a branch.
 fn first_in(block: &[u8]) -> usize
     requires { length block.now ≤ 64 }
@@ -72,10 +58,8 @@ fn first_in(block: &[u8]) -> usize
 {
     let none = block.len() as u8;
     let mut first = none;
-    let mut i = 0;
-    while i < block.len() {
-        first = lesser(first, column_if(block[i], i as u8, none));
-        i += 1;
+    for (i, byte) in block.iter().enumerate() {
+        first = first.min(column_if(*byte, i as u8, none));
     }
     first as usize
 }
@@ -86,10 +70,8 @@ fn end_in(block: &[u8]) -> usize
     ensures { Passed block.now result (length block.now) }
 {
     let mut end = 0u8;
-    let mut i = 0;
-    while i < block.len() {
-        end = greater(end, column_if(block[i], (i as u8) + 1, 0));
-        i += 1;
+    for (i, byte) in block.iter().enumerate() {
+        end = end.max(column_if(*byte, (i as u8) + 1, 0));
     }
     end as usize
 }
@@ -156,14 +138,12 @@ fn first_ink(line: &[u8]) -> usize
     ensures passed { Passed line.now 0 result }
     ensures fact { result < length line.now → get_or line.now result 0 ≡ 0 → ⊥ }
 {
-    let mut i = near_first(line);
-    while i < line.len() {
+    for i in near_first(line)..line.len() {
         if line[i] != 0 {
             return i;
         }
-        i += 1;
     }
-    i
+    line.len()
 }
 
 // The column after the last with ink, or 0.
@@ -171,14 +151,12 @@ fn end_ink(line: &[u8]) -> usize
     ensures passed { Passed line.now result (length line.now) }
     ensures fact { 0 < result → get_or line.now (result - 1) 0 ≡ 0 → ⊥ }
 {
-    let mut i = near_end(line);
-    while 0 < i {
-        if line[i - 1] != 0 {
-            return i;
+    for i in (0..near_end(line)).rev() {
+        if line[i] != 0 {
+            return i + 1;
         }
-        i -= 1;
     }
-    i
+    0
 }
 
 // The stretch of a row.
@@ -204,44 +182,15 @@ pub fn scan(mask: &[u8], size: Size, ink: &mut [u16])
 {
     let width = size.width;
     let height = size.height;
-    let mut from = 0;
-    let mut at = 0;
-    let mut row = 0;
-    while row < height {
-        let to = from + width;
-        let s = ink_of(&mask[from..to]);
-        ink[at] = s.first;
-        ink[at + 1] = s.end;
-        from = to;
-        at += 2;
-        row += 1;
+    for row in 0..height {
+        let from = row * width;
+        let s = ink_of(&mask[from..from + width]);
+        ink[2 * row] = s.first;
+        ink[2 * row + 1] = s.end;
     }
 }
 
 // ---- numbers that are kept while a mask is drawn
-
-// Sets every number to 0: the ink of a mask of zeros.
-pub fn clear(ink: &mut [u16])
-    ensures { ink.new ≡ replicate (length ink.old) 0 }
-{
-    let mut i = 0;
-    while i < ink.len() {
-        ink[i] = 0;
-        i += 1;
-    }
-}
-
-fn lesser_column(a: u16, b: u16) -> u16
-    ensures { (result ≤ a) × (result ≤ b) × ((result ≡ a) ⊎ (result ≡ b)) }
-{
-    if b < a { b } else { a }
-}
-
-fn greater_column(a: u16, b: u16) -> u16
-    ensures { (a ≤ result) × (b ≤ result) × ((result ≡ a) ⊎ (result ≡ b)) }
-{
-    if a < b { b } else { a }
-}
 
 // The stretch of a row that had the stretch `old` before bytes were added from `from` up to `to`:
 // only those are looked at.
@@ -262,7 +211,7 @@ pub fn grown(line: &[u8], from: usize, to: usize, old: Stretch) -> Stretch
         return Stretch { first, end: behind };
     }
     Stretch {
-        first: lesser_column(first, old.first),
-        end: greater_column(behind, old.end),
+        first: first.min(old.first),
+        end: behind.max(old.end),
     }
 }

@@ -1,135 +1,79 @@
-// Standard input, read line by line.
+// Input, read line by line.
 #![tactic(auto)]
 
-use fields::MOST_LINE;
+ghost use Rattle.std.specs.Prelude.{◌≤◌};
+
+use fields::{MOST_LINE, Problem};
 use std::io::{self, Read};
+use writing::Failure;
 
-pub const CHUNK: usize = 65536;
+const CHUNK: usize = 65536;
 
-// What is read and not yet used: the bytes of a chunk from `at` up to `have`.
-#[derive(Clone, Copy)]
-pub struct Input {
-    pub at: usize,
-    pub have: usize,
-}
-
-// How far a line is read: the input behind it, its length so far, whether it is too long, whether
-// more is to come, and whether there is a line at all.
-#[derive(Clone, Copy)]
-pub struct Reading {
-    pub at: usize,
-    pub have: usize,
-    pub length: usize,
-    pub over: bool,
-    pub more: bool,
-    pub found: bool,
-}
-
-// Ends the line with a line end, behind the bytes that it has.
-fn end_line(
-    line: &mut [u8; MOST_LINE],
+// A reader, and what is read of it and not yet used: a chunk's bytes from one place up to another.
+#[derive(Drop)]
+pub struct Input<R> {
+    reader: R,
+    chunk: [u8; CHUNK],
     at: usize,
     have: usize,
-    length: usize,
-    over: bool,
-    found: bool,
-) -> Reading {
-    if length < MOST_LINE {
-        line[length] = b'\n';
-    }
-    Reading {
-        at,
-        have,
-        length,
-        over,
-        more: false,
-        found,
-    }
+    ghost in_order: { at ≤ have },
+    ghost in_chunk: { have ≤ 65536 },
 }
 
-// Adds a byte to the line, or ends it.
-fn add_byte(line: &mut [u8; MOST_LINE], byte: u8, at: usize, r: Reading) -> Reading {
-    let length = r.length;
-    if byte == b'\n' {
-        return end_line(line, at, r.have, length, r.over, true);
-    }
-    if length < MOST_LINE - 1 {
-        line[length] = byte;
-        return Reading {
-            at,
-            have: r.have,
-            length: length + 1,
-            over: r.over,
-            more: true,
-            found: true,
-        };
-    }
-    Reading {
-        at,
-        have: r.have,
-        length,
-        over: true,
-        more: true,
-        found: true,
-    }
-}
-
-// Reads the next chunk, or ends the last line.
-fn refill(
-    reader: &mut impl Read,
-    chunk: &mut [u8; CHUNK],
-    line: &mut [u8; MOST_LINE],
-    r: Reading,
-) -> io::Result<Reading> {
-    let have = reader.read(chunk)?;
-    if have == 0 {
-        return Ok(end_line(line, 0, 0, r.length, r.over, r.found));
-    }
-    Ok(Reading {
-        at: 0,
-        have,
-        length: r.length,
-        over: r.over,
-        more: true,
-        found: r.found,
-    })
-}
-
-fn step(
-    reader: &mut impl Read,
-    chunk: &mut [u8; CHUNK],
-    line: &mut [u8; MOST_LINE],
-    r: Reading,
-) -> io::Result<Reading> {
-    let at = r.at;
-    if at < r.have {
-        if at < CHUNK {
-            return Ok(add_byte(line, chunk[at], at + 1, r));
+impl<R: Read> Input<R> {
+    pub fn new(reader: R) -> Self {
+        Input {
+            reader,
+            chunk: [0; CHUNK],
+            at: 0,
+            have: 0,
         }
     }
-    refill(reader, chunk, line, r)
-}
 
-// Reads a line. The turns are counted, up to a number that no line uses up.
-pub fn read_line(
-    reader: &mut impl Read,
-    chunk: &mut [u8; CHUNK],
-    line: &mut [u8; MOST_LINE],
-    input: Input,
-) -> io::Result<Reading> {
-    let mut r = Reading {
-        at: input.at,
-        have: input.have,
-        length: 0,
-        over: false,
-        more: true,
-        found: false,
-    };
-    for _ in 0..u64::MAX {
-        if !r.more {
-            break;
+    // Reads more where all that was read is used: nothing where the input has ended.
+    fn refill(&mut self) -> io::Result<()> {
+        if self.at == self.have {
+            self.at = 0;
+            self.have = self.reader.read(&mut self.chunk)?;
         }
-        r = step(reader, chunk, line, r)?;
+        Ok(())
     }
-    Ok(r)
+
+    fn unread(&self) -> &[u8] {
+        &self.chunk[self.at..self.have]
+    }
+
+    // Reads a line to a place that has room for the longest, if there is one more. The turns are counted,
+    // up to a number that no line uses up.
+    pub fn read_line<'l>(
+        &mut self,
+        line: &'l mut [u8; MOST_LINE],
+    ) -> Result<Option<&'l [u8]>, Failure> {
+        let mut length = 0usize;
+        let mut found = false;
+        for _ in 0..u64::MAX {
+            self.refill()?;
+            let unread = self.unread();
+            if unread.is_empty() {
+                break;
+            }
+            found = true;
+            let end = unread.iter().position(|byte| *byte == b'\n');
+            let part = &unread[..end.unwrap_or(unread.len())];
+            let longer = length.saturating_add(part.len());
+            if let Some(place) = line.get_mut(length..longer) {
+                place.copy_from_slice(part);
+            }
+            length = longer;
+            let used = part.len() + usize::from(end.is_some());
+            self.at = self.have.min(self.at + used);
+            if end.is_some() {
+                break;
+            }
+        }
+        if length >= MOST_LINE {
+            return Err(Failure::Problem(Problem::LineTooLong));
+        }
+        Ok(found.then_some(&line[..length]))
+    }
 }

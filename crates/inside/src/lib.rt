@@ -1,104 +1,95 @@
 // Inside: whether every box of a list lies inside a safe area. Added to femtovg's calls by document 02,
 // change 10.
 //
-// `all_inside` is what is asked of each box, the walk over the lent boxes (crate boxes), and an end, as
-// `touch::touch` is. `inside_floats` is the same over lent floats.
+// `all_inside` asks each of the lent boxes whether it lies outside (crate boxes walks them), and then checks the safe area
+// and the fringe, as `touch::touch` does. `inside_floats` is the same over lent floats.
 #![tactic(auto)]
 
-ghost use Rattle.std.specs.Prelude.{◌*◌, ◌≤◌, length, ◌≡◌};
+ghost use Rattle.std.specs.Prelude.{◌≡◌, ◌*◌, ◌≤◌, length};
 ghost use Rattle.boxes.specs.Lent.{boxes_in};
-ghost use Rattle.boxes.specs.Walk.{PlaceFits};
+ghost use Rattle.inside.specs.Finish.{lies_outside_of, inside_of, finish_of};
 ghost use Rattle.inside.specs.Inside.{inside_call};
-ghost use Rattle.inside.specs.Finish.{outside_ask, finish_check_of, place_of, answer_of, finish_of};
 
-use boxes::{Ask, Found};
-use covering::MaybeCoverage;
-use fault::{Check, Fault};
+use clip_coverage::ClipCoverage;
+use fault::Fault;
 use shape::RoundedBox;
 
-#[derive(Clone, Copy)]
-pub enum InsideAnswer {
-    AllInside,
+// What is said of a list's boxes.
+#[derive(Clone, Copy, Debug, PartialEq, Eq)]
+pub enum Inside {
+    All,
     // the lowest place whose box the safe area does not contain, counted from 0
     Outside(u16),
-    // the safe area has no coverage
-    NoBox,
-    Refused(Fault),
 }
 
-// What is asked of each box: nothing, where the safe area has no coverage. The boxes are still checked.
-fn outside_ask(safe: RoundedBox, fringe: f32) -> Ask
-    ensures { result ≡ outside_ask safe fringe }
+// Whether the safe area's coverage does not contain a box. Where there is no coverage, no box lies outside: the boxes
+// are still checked.
+fn lies_outside(area: Option<ClipCoverage>, b: RoundedBox) -> bool
+    ensures { result ≡ lies_outside_of area b }
 {
-    match covering::coverage_unchecked(safe, fringe) {
-        MaybeCoverage::Coverage(area) => Ask::Outside(area),
-        MaybeCoverage::NoCoverage => Ask::Nothing,
+    match area {
+        Some(k) => !k.contains_unchecked(b),
+        None => false,
     }
 }
 
-// Safe area and fringe are refused after the boxes.
-fn finish_check(found: Found, safe: RoundedBox, fringe: f32) -> Check
-    ensures { result ≡ finish_check_of found safe fringe }
+// The place of the first box outside, as 16 bits, or all inside.
+fn said_of(place: Option<u16>) -> Inside
+    ensures { result ≡ inside_of place }
 {
-    found
-        .check()
-        .and_then(safe.check())
-        .and_then(shape::fringe_check(fringe))
-}
-
-// What the walk found as an answer: the place as 16 bits.
-fn place(found: Found) -> InsideAnswer
-    requires { PlaceFits found }
-    ensures { result ≡ place_of found }
-{
-    match found {
-        Found::At(k) => InsideAnswer::Outside(k as u16),
-        Found::Nowhere => InsideAnswer::AllInside,
-        Found::Refused(fault) => InsideAnswer::Refused(fault),
+    match place {
+        Some(k) => Inside::Outside(k),
+        None => Inside::All,
     }
 }
 
-// Where nothing was asked there is no safe area.
-fn answer(found: Found, asked: Ask) -> InsideAnswer
-    requires { PlaceFits found }
-    ensures { result ≡ answer_of asked found }
+// The answer, where `found` is what the walk found: safe area and fringe are refused after the boxes, and there is
+// none without a coverage.
+fn finish(
+    found: Result<Option<u16>, Fault>,
+    area: Option<ClipCoverage>,
+    safe: RoundedBox,
+    fringe: f32,
+) -> Result<Option<Inside>, Fault>
+    ensures { result ≡ finish_of found area safe fringe }
 {
-    match asked {
-        Ask::Nothing => InsideAnswer::NoBox,
-        _ => place(found),
+    let place = found?;
+    safe.check()?;
+    shape::fringe_check(fringe)?;
+    if area.is_none() {
+        return Ok(None);
     }
-}
-
-// The answer, where `found` is what the walk found.
-fn finish(found: Found, asked: Ask, safe: RoundedBox, fringe: f32) -> InsideAnswer
-    requires { PlaceFits found }
-    ensures { result ≡ finish_of found asked safe fringe }
-{
-    if let Check::Refused(fault) = finish_check(found, safe, fringe) {
-        return InsideAnswer::Refused(fault);
-    }
-    answer(found, asked)
+    Ok(Some(said_of(place)))
 }
 
 // Whether the safe area's coverage at the fringe contains every box, or the lowest place of a box that it
-// does not contain. Ruled out: all inside untried; an empty list inside where there is no coverage; a later
-// place of those outside; a place named where a box after it is at fault; the safe area refused before a
-// box of the list.
-pub fn all_inside(boxes: &[RoundedBox], safe: RoundedBox, fringe: f32) -> InsideAnswer
+// does not contain; none where there is no coverage. Ruled out: all inside untried; an empty list inside where there is
+// no coverage; a later place of those outside; a place named where a box after it is at fault; the safe area refused
+// before a box of the list.
+pub fn all_inside(
+    boxes: &[RoundedBox],
+    safe: RoundedBox,
+    fringe: f32,
+) -> Result<Option<Inside>, Fault>
     ensures { result ≡ inside_call boxes.now safe fringe }
 {
-    let asked = outside_ask(safe, fringe);
-    let found = boxes::first_place(boxes, asked);
-    finish(found, asked, safe, fringe)
+    let area = covering::coverage_unchecked(safe, fringe);
+    let found = boxes::first_place(boxes, |b| lies_outside(area, b));
+    finish(found, area, safe, fringe)
 }
 
 // The same for the n boxes that the floats begin with, ten for each: its callers hold no list of boxes,
 // and need no walk of their own.
-pub fn inside_floats(floats: &[f32], n: usize, safe: RoundedBox, fringe: f32) -> InsideAnswer
+pub fn inside_floats(
+    floats: &[f32],
+    n: usize,
+    safe: RoundedBox,
+    fringe: f32,
+) -> Result<Option<Inside>, Fault>
     requires { n * 10 ≤ length floats.now }
     ensures { result ≡ inside_call (boxes_in floats.now n) safe fringe }
 {
-    let asked = outside_ask(safe, fringe);
-    let found = boxes::first_place_in(floats, n, asked);
-    finish(found, asked, safe, fringe)
+    let area = covering::coverage_unchecked(safe, fringe);
+    let found = boxes::first_place_in(floats, n, |b| lies_outside(area, b));
+    finish(found, area, safe, fringe)
 }

@@ -1,8 +1,8 @@
 -- A line of cells under others, from their first on and from where they meet. Assumes nothing.
 use mathlib.Core.Path.{◌≡◌, refl, sym, ap, ◌∙◌}
 use mathlib.Core.List.{List, [], ◌∷◌, ◌++◌, append-nil}
-use Prim.Native.Nat.{ℕ, zero, suc, ◌+◌, ◌-◌, ◌*◌, ◌<◌, ◌≤◌}
-use native.Mathlib.Nat.{not-suc-le-zero, le_of_suc-le-suc, mul-le-mul}
+use Prim.Native.Nat.{ℕ, zero, suc, ◌+◌, ◌-◌, ◌<◌, ◌≤◌}
+use native.Mathlib.Nat.{not-suc-le-zero, le_of_suc-le-suc}
 use native.Mathlib.Numerals.{add-one}
 use native.Mathlib.Omega.{arith}
 use lib.ListN.{length, get_or, set, take, drop, replicate, length-append, length-take, length-drop, length-replicate, drop_of_length-le, replicate-append-replicate, get_or-replicate, get_or-append}
@@ -10,9 +10,6 @@ use lib.Seq.{take_at, drop_at, take_all, take-length, drop-length, length-take-l
 use Rattle.laying.specs.declared.Start.{Start}
 use Rattle.laying.specs.Laying.{laid_byte}
 use Rattle.laying.specs.Lines.{under_of, line_of}
-
-pub product_small : (a b : ℕ) → a < 256 → b < 256 → a * b ≤ 65025
-product_small a b h g = mul-le-mul (le_of_suc-le-suc h) (le_of_suc-le-suc g)
 
 -- ---- from their first on
 

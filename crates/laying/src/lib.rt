@@ -43,7 +43,7 @@ fn first_met(offset: i32) -> Start
 {
     if offset < 0 {
         return Start {
-            own: (-(offset as i64)) as usize,
+            own: offset.unsigned_abs() as usize,
             other: 0,
         };
     }
@@ -57,10 +57,7 @@ fn first_met(offset: i32) -> Start
 fn rows_met(y: Start, height: usize) -> usize
     ensures { result ≡ rows_met y height }
 {
-    if height <= y.other {
-        return 0;
-    }
-    height - y.other
+    height.saturating_sub(y.other)
 }
 
 // Where the row of the other mask that row 0 meets starts: below 0, if that lies before its first row.
@@ -82,10 +79,8 @@ fn lay_cells(cells: &mut [u8], others: &[u8])
     requires { length cells.old ≤ length others.now }
     ensures { cells.new ≡ under_of cells.old others.now }
 {
-    let mut i = 0;
-    while i < cells.len() {
-        cells[i] = lay_byte(cells[i], others[i]);
-        i += 1;
+    for (i, cell) in cells.iter_mut().enumerate() {
+        *cell = lay_byte(*cell, others[i]);
     }
 }
 
@@ -99,7 +94,7 @@ fn lay_front(cells: &mut [u8], others: &[u8])
         return;
     }
     lay_cells(&mut cells[..n], others);
-    cells::clear_bytes(&mut cells[n..]);
+    cells[n..].fill(0);
 }
 
 // Lays a row of the other mask on a line, from where they meet.
@@ -108,15 +103,11 @@ fn lay_line(line: &mut [u8], others: &[u8], x: Start)
 {
     let own = x.own;
     let from = x.other;
-    if line.len() <= own {
-        cells::clear_bytes(line);
+    if line.len() <= own || others.len() <= from {
+        line.fill(0);
         return;
     }
-    if others.len() <= from {
-        cells::clear_bytes(line);
-        return;
-    }
-    cells::clear_bytes(&mut line[..own]);
+    line[..own].fill(0);
     lay_front(&mut line[own..], &others[from..]);
 }
 
@@ -135,12 +126,8 @@ fn lay_row(
     requires met_row_start { MetRowStart y size row start × (rows ≡ rows_met y size.height) }
     ensures { line.new ≡ row_of x y size other.now row line.old }
 {
-    if row < y.own {
-        cells::clear_bytes(line);
-        return;
-    }
-    if rows <= row - y.own {
-        cells::clear_bytes(line);
+    if row < y.own || rows <= row - y.own {
+        line.fill(0);
         return;
     }
     let from = start as usize;
@@ -163,8 +150,7 @@ pub fn lay(mask: &mut [u8], size: Size, other: &[u8], other_size: Size, offset: 
     let rows = rows_met(y, other_size.height);
     let mut from = 0;
     let mut other_from = first_start(offset.y, other_width);
-    let mut row = 0;
-    while row < height {
+    for row in 0..height {
         let to = from + width;
         lay_row(
             &mut mask[from..to],
@@ -178,6 +164,5 @@ pub fn lay(mask: &mut [u8], size: Size, other: &[u8], other_size: Size, offset: 
         );
         from = to;
         other_from += other_stride;
-        row += 1;
     }
 }

@@ -63,11 +63,7 @@ pub fn put(out: &mut [f32], floats: &[f32])
     requires { length floats.now ≤ length out.old }
     ensures { out.new ≡ over floats.now out.old }
 {
-    let mut i = 0;
-    while i < floats.len() {
-        out[i] = floats[i];
-        i += 1;
-    }
+    out[..floats.len()].copy_from_slice(floats);
 }
 
 pub fn put_box(out: &mut [f32], b: RoundedBox)

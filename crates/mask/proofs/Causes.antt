@@ -20,7 +20,7 @@ use Rattle.ink.proofs.Lent.{lent_enough, lent_short_law as short_told, enough_te
 use Rattle.coverage.specs.Scratch.{floats_needed, counters_needed}
 use Rattle.mask.specs.Calls.{Drawing, draw_answer}
 use Rattle.mask.specs.Laws.{CanDraw, FirstCause, too_large_law, lent_short_law, list_fault, scratch_short, DoneExactlyWhen, RefusedExactlyWhen}
-use Rattle.mask.specs.declared.Outcome.TheVariants.{Done, Refused}
+use Rattle.std.specs.Prelude.{Ok, Err}
 use Rattle.mask.proofs.Decided.{Decided, done_only, refused_only}
 
 pub short_true : (a b c d : ℕ) → (a < b) ⊎ (c < d) → (ltb a b || ltb c d) ≡ true
@@ -69,7 +69,7 @@ module _ (d : Drawing) (lent : Lent) where
 
   -- ---- and tells the answer
 
-  pub can_draw : CanDraw d lent → draw_answer d lent ≡ Done
+  pub can_draw : CanDraw d lent → draw_answer d lent ≡ Ok tt
   can_draw c =
       let r : read_words d.words ≡ ok c.groups [] = ap read_words c.written ∙ reads_what_is_written.back c.groups c.allowed in
       rw (
@@ -80,7 +80,7 @@ module _ (d : Drawing) (lent : Lent) where
         le-ltb d.counters (counters_needed d.size) c.counters,
       ) refl
 
-  pub cannot_draw : (f : Fault) → FirstCause d lent f → draw_answer d lent ≡ Refused f
+  pub cannot_draw : (f : Fault) → FirstCause d lent f → draw_answer d lent ≡ Err f
   cannot_draw f (too_large_law h) = rw (large_test d.size h) refl
   cannot_draw f (lent_short_law s m) = rw (allowed_small d.size s, short_test d.size lent m) refl
   cannot_draw f (list_fault s m h) = rw (allowed_small d.size s, enough_test d.size lent m, list-fault-law.always d.words f h) refl

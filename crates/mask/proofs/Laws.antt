@@ -15,7 +15,7 @@ use Rattle.coverage.specs.Drawing.{drawing_of}
 use Rattle.coverage.proofs.Places.{drawing_length}
 use Rattle.mask.specs.Calls.{mask_after_drawing}
 use Rattle.mask.specs.Laws.{ListFaults, SameCells}
-use Rattle.mask.specs.declared.Outcome.TheVariants.{Done}
+use Rattle.std.specs.Prelude.{Ok}
 
 pub list_faults : ListFaults
 list_faults words f e = go (list_fault.only words f e)
@@ -31,5 +31,5 @@ same_cells d mask other h k = front mask ∙ sym (front other)
     cells : List ℕ
     cells = drawing_of d.size (groups_of d.words)
 
-    front : (m : List ℕ) → take (cells_of d.size) (mask_after_drawing Done d m) ≡ cells
+    front : (m : List ℕ) → take (cells_of d.size) (mask_after_drawing (Ok tt) d m) ≡ cells
     front m = take_at cells (drop (cells_of d.size) m) (cells_of d.size) (drawing_length d.size (groups_of d.words))

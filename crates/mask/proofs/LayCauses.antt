@@ -14,7 +14,7 @@ use Rattle.ink.proofs.Lent.{lent_enough, lent_short_law, enough_test, short_test
 use Rattle.laying.specs.Laying.{Laying}
 use Rattle.mask.specs.Calls.{lay_answer}
 use Rattle.mask.specs.Laws.{CanLay, FirstLayCause, either_too_large, either_short, LaidExactlyWhen}
-use Rattle.mask.specs.declared.Outcome.TheVariants.{Done, Refused}
+use Rattle.std.specs.Prelude.{Ok, Err}
 use Rattle.mask.proofs.Decided.{Decided, done_only, refused_only}
 
 module _ (l : Laying) (lent : Lent) (other : ℕ) where
@@ -43,7 +43,7 @@ module _ (l : Laying) (lent : Lent) (other : ℕ) where
         other_cells = ltb-false other (cells_of l.other_size) h;
       })
 
-  pub can_lay : CanLay l lent other → lay_answer l lent other ≡ Done
+  pub can_lay : CanLay l lent other → lay_answer l lent other ≡ Ok tt
   can_lay c =
       rw (
         allowed_small l.size c.size_allowed,
@@ -52,7 +52,7 @@ module _ (l : Laying) (lent : Lent) (other : ℕ) where
         le-ltb other (cells_of l.other_size) c.other_cells,
       ) refl
 
-  pub cannot_lay : (f : Fault) → FirstLayCause l lent other f → lay_answer l lent other ≡ Refused f
+  pub cannot_lay : (f : Fault) → FirstLayCause l lent other f → lay_answer l lent other ≡ Err f
   cannot_lay f (either_too_large (inl h)) = rw (large_test l.size h) refl
   cannot_lay f (either_too_large (inr h)) = rw (large_test l.other_size h, or_true (too_large l.size)) refl
   cannot_lay f (either_short s o h) =

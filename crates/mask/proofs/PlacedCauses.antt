@@ -7,7 +7,7 @@ use Prim.Native.Nat.{ℕ}
 use native.Mathlib.Omega.{arith}
 use Rattle.fault.specs.declared.Fault.{Fault}
 use Rattle.fault.specs.declared.Fault.TheVariants.{MaskTooLarge, CornerOutOfRange}
-use Rattle.fault.specs.declared.Check.TheVariants as check
+use Rattle.std.specs.Prelude.{Ok, Err}
 use Rattle.cells.specs.Cells.{too_large, SizeAllowed}
 use Rattle.cells.specs.Corner.{corner_out, CornerOut, CornerAllowed}
 use Rattle.cells.proofs.Sizes.{or_true, size_allowed, size_large, allowed_small, large_test}
@@ -18,8 +18,7 @@ use Rattle.mask.specs.Calls.{lay_answer, lay_placed_answer}
 use Rattle.mask.specs.Laws.{CanLay, FirstLayCause, either_too_large, either_short, CanLayPlaced, FirstPlacedCause, placed_too_large, corner_out_law as out-cause, placed_short}
 use Rattle.mask.specs.Laws.{LaidPlacedExactlyWhen, PlacedIsByOffset}
 use Rattle.mask.specs.Steps.{corners_check}
-use Rattle.mask.specs.declared.Outcome.{Outcome}
-use Rattle.mask.specs.declared.Outcome.TheVariants.{Done, Refused}
+use Rattle.fault.specs.Check.{Check}
 use Rattle.mask.proofs.Decided.{Decided, done_only, refused_only}
 use Rattle.mask.proofs.LayCauses.{can_lay, cannot_lay, decided as lay-decided}
 
@@ -56,7 +55,7 @@ module _ (p : Placed) (lent : Lent) (other : ℕ) where
   pub within : CornerAllowed p.own.corner → CornerAllowed p.other.corner → lay_placed_answer p lent other ≡ lay_answer (by_offset p) lent other
   within c d = rw (allowed_in p.own.corner c, allowed_in p.other.corner d) refl
 
-  pub can_lay_placed : CanLayPlaced p lent other → lay_placed_answer p lent other ≡ Done
+  pub can_lay_placed : CanLayPlaced p lent other → lay_placed_answer p lent other ≡ Ok tt
   can_lay_placed c = within c.corner_allowed c.other_corner_allowed ∙ can_lay (by_offset p) lent other c.can_lay
 
   -- either corner is out of range
@@ -64,7 +63,7 @@ module _ (p : Placed) (lent : Lent) (other : ℕ) where
   either_out (inl h) = rw (out_test p.own.corner h) refl
   either_out (inr h) = rw (out_test p.other.corner h) (or_true (corner_out p.own.corner))
 
-  pub cannot_lay_placed : (f : Fault) → FirstPlacedCause p lent other f → lay_placed_answer p lent other ≡ Refused f
+  pub cannot_lay_placed : (f : Fault) → FirstPlacedCause p lent other f → lay_placed_answer p lent other ≡ Err f
   cannot_lay_placed f (placed_too_large (inl h)) = rw (large_test p.own.size h) refl
   cannot_lay_placed f (placed_too_large (inr h)) = rw (large_test p.other.size h, or_true (too_large p.own.size)) refl
   cannot_lay_placed f (out-cause s o h) = rw (allowed_small p.own.size s, allowed_small p.other.size o, either_out h) refl
@@ -72,37 +71,37 @@ module _ (p : Placed) (lent : Lent) (other : ℕ) where
 
   -- a corner out of range is 16, unless 3 comes first
   beyond : CornerOut p.own.corner ⊎ CornerOut p.other.corner
-      → (lay_placed_answer p lent other ≡ Refused MaskTooLarge) ⊎ (lay_placed_answer p lent other ≡ Refused CornerOutOfRange)
+      → (lay_placed_answer p lent other ≡ Err MaskTooLarge) ⊎ (lay_placed_answer p lent other ≡ Err CornerOutOfRange)
   beyond h = go (too_large p.own.size || too_large p.other.size) refl
     where
       go : (t : Bool) → (too_large p.own.size || too_large p.other.size) ≡ t
-          → (lay_placed_answer p lent other ≡ Refused MaskTooLarge) ⊎ (lay_placed_answer p lent other ≡ Refused CornerOutOfRange)
+          → (lay_placed_answer p lent other ≡ Err MaskTooLarge) ⊎ (lay_placed_answer p lent other ≡ Err CornerOutOfRange)
       go true e = inl (rw e refl)
       go false e = inr (rw (e, either_out h) refl)
 
 -- ---- what the check before it says of the answer
 
-same_fault : {f g : Fault} → check.Refused f ≡ check.Refused g → f ≡ g
+same_fault : {f g : Fault} → ◌≡◌ {A = Check} (Err f) (Err g) → f ≡ g
 same_fault e = cc
 
-not_passed : {f : Fault} → check.Refused f ≡ check.Pass → ⊥
+not_passed : {f : Fault} → ◌≡◌ {A = Check} (Err f) (Ok tt) → ⊥
 not_passed e = let z : ◌≡◌ {A = ℕ} 0 1 = cc in omega arith
 
-pub check_refuses : (p : Placed) (lent : Lent) (other : ℕ) (f : Fault) → corners_check p ≡ check.Refused f → lay_placed_answer p lent other ≡ Refused f
+pub check_refuses : (p : Placed) (lent : Lent) (other : ℕ) (f : Fault) → corners_check p ≡ Err f → lay_placed_answer p lent other ≡ Err f
 check_refuses p lent other f =
     go (too_large p.own.size || too_large p.other.size) (corner_out p.own.corner || corner_out p.other.corner) _
   where
-    go : (a b : Bool) (laid : Outcome) → cond a (check.Refused MaskTooLarge) (cond b (check.Refused CornerOutOfRange) check.Pass) ≡ check.Refused f
-        → cond a (Refused MaskTooLarge) (cond b (Refused CornerOutOfRange) laid) ≡ Refused f
-    go true b laid e = ap Refused (same_fault e)
-    go false true laid e = ap Refused (same_fault e)
+    go : (a b : Bool) (laid : Check) → ◌≡◌ {A = Check} (cond a (Err MaskTooLarge) (cond b (Err CornerOutOfRange) (Ok tt))) (Err f)
+        → ◌≡◌ {A = Check} (cond a (Err MaskTooLarge) (cond b (Err CornerOutOfRange) laid)) (Err f)
+    go true b laid e = ap (λ (h : Fault). Err h) (same_fault e)
+    go false true laid e = ap (λ (h : Fault). Err h) (same_fault e)
     go false false laid e = absurd (not_passed (sym e))
 
-pub check_passes : (p : Placed) → corners_check p ≡ check.Pass → CornerAllowed p.own.corner × CornerAllowed p.other.corner
+pub check_passes : (p : Placed) → corners_check p ≡ Ok tt → CornerAllowed p.own.corner × CornerAllowed p.other.corner
 check_passes p = go (too_large p.own.size || too_large p.other.size) (corner_out p.own.corner) (corner_out p.other.corner) refl refl
   where
     go : (a b d : Bool) → corner_out p.own.corner ≡ b → corner_out p.other.corner ≡ d
-        → cond a (check.Refused MaskTooLarge) (cond (b || d) (check.Refused CornerOutOfRange) check.Pass) ≡ check.Pass
+        → ◌≡◌ {A = Check} (cond a (Err MaskTooLarge) (cond (b || d) (Err CornerOutOfRange) (Ok tt))) (Ok tt)
         → CornerAllowed p.own.corner × CornerAllowed p.other.corner
     go true b d g h e = absurd (not_passed e)
     go false true d g h e = absurd (not_passed e)

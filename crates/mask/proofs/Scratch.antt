@@ -11,10 +11,9 @@ use Rattle.fault.specs.declared.Fault.TheVariants.{BufferTooShort}
 use Rattle.word_list.specs.Words.{points_in, read_words, groups_of}
 use Rattle.words.specs.Scan.{scan_of}
 use Rattle.word_list.specs.Writer.{words_of, Allowed}
-use Rattle.words.specs.declared.Scan.TheVariants as scan
 use Rattle.words.proofs.Places.{fine_read, read_fine, read_value, words_few}
 use Rattle.word_list.proofs.RoundTrip.{reads_what_is_written}
-use Rattle.words.proofs.Steps.{scan_at}
+use Rattle.words.proofs.Steps.{scan_at, scanned}
 use Rattle.cells.specs.declared.Size.{Size}
 use Rattle.cells.specs.Cells.{cells_of, SizeAllowed}
 use Rattle.cells.proofs.Sizes.{cells_long}
@@ -25,7 +24,7 @@ use Rattle.mask.specs.Laws.{CanDraw, FirstCause, scratch_short}
 use Rattle.groups.specs.Steps.{ListCounted}
 
 -- a list that was read without a fault
-pub list_counted : (ws : List ℤ) (k points : ℕ) → scan_of (length ws) points_in 0 (read_words ws) ≡ scan.At k points → ListCounted ws points
+pub list_counted : (ws : List ℤ) (k points : ℕ) → scan_of (length ws) points_in 0 (read_words ws) ≡ scanned k points → ListCounted ws points
 list_counted ws k points e =
     let w = scan_at (length ws) points_in 0 (read_words ws) k points e in
     let v = read_value [] (read_words ws) w.value w.rest w.read in

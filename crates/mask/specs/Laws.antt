@@ -1,7 +1,7 @@
 -- What document 01 says of drawings and of laying on as a whole, and document 02, change 8, of laying on by corners,
 -- stated of the definitions in Calls.antt. Proved in proofs/Causes.antt, LayCauses.antt, PlacedCauses.antt, Numbers.antt
 -- and Laws.antt.
-use Rattle.std.specs.Prelude.{◌≡◌, ◌⊎◌, List, ℕ, ◌≤◌, ◌<◌, ℤ, length, take}
+use Rattle.std.specs.Prelude.{◌≡◌, ◌⊎◌, List, ℕ, ◌≤◌, ◌<◌, ℤ, length, take, Ok, Err}
 use Rattle.fault.specs.declared.Fault.{Fault}
 use Rattle.fault.specs.Number.{number_of}
 use Rattle.fault.specs.Check.{ForItsFirstCause}
@@ -17,8 +17,7 @@ use Rattle.coverage.specs.Scratch.{floats_needed, counters_needed}
 use Rattle.laying.specs.Laying.{Laying}
 use Rattle.laying.specs.Placed.{Placed, by_offset}
 use Rattle.mask.specs.Calls.{Drawing, outcome_number, draw_answer, mask_after_drawing, lay_answer, mask_after_laying, lay_placed_answer, ink_after_call}
-use Rattle.mask.specs.declared.Outcome.{Outcome}
-use Rattle.mask.specs.declared.Outcome.TheVariants.{Done, Refused}
+use Rattle.fault.specs.Check.{Check}
 
 -- ---- drawing
 
@@ -35,8 +34,8 @@ pub record CanDraw (d : Drawing) (lent : Lent) : Type 0 where
 
 -- 'Numbers are given only for these causes': a drawing is done exactly when none of them holds
 pub record DoneExactlyWhen : Type 0 where
-  pub only : (d : Drawing) (lent : Lent) → draw_answer d lent ≡ Done → CanDraw d lent
-  pub always : (d : Drawing) (lent : Lent) → CanDraw d lent → draw_answer d lent ≡ Done
+  pub only : (d : Drawing) (lent : Lent) → draw_answer d lent ≡ Ok tt → CanDraw d lent
+  pub always : (d : Drawing) (lent : Lent) → CanDraw d lent → draw_answer d lent ≡ Ok tt
 
 -- Why a drawing is refused with a fault, in document 01's order: 'Order when drawing: 3, then 4 for the mask' (and, by
 -- document 02, change 9, for its ink with it), 'then the list from its first word (5, 6 or 7 ..), then 4 for scratch.' Each cause is given with none before it. The fault of a
@@ -53,8 +52,8 @@ pub data FirstCause (d : Drawing) (lent : Lent) : Fault → Type 0 where
 
 -- a drawing is refused with a fault exactly when that is its first cause
 pub record RefusedExactlyWhen : Type 0 where
-  pub only : (d : Drawing) (lent : Lent) (f : Fault) → draw_answer d lent ≡ Refused f → FirstCause d lent f
-  pub always : (d : Drawing) (lent : Lent) (f : Fault) → FirstCause d lent f → draw_answer d lent ≡ Refused f
+  pub only : (d : Drawing) (lent : Lent) (f : Fault) → draw_answer d lent ≡ Err f → FirstCause d lent f
+  pub always : (d : Drawing) (lent : Lent) (f : Fault) → FirstCause d lent f → draw_answer d lent ≡ Err f
 
 -- 'Numbers are given only for these causes': a list's fault is 5, 6 or 7
 abbrev pub ListFaults : Type 0
@@ -64,7 +63,7 @@ ListFaults = (words : List ℤ) (f : Fault) → read_words words ≡ fault f →
 -- scratch: draw_answer is given its length alone, and mask_after_drawing nothing of it.)
 abbrev pub SameCells : Type 0
 SameCells = (d : Drawing) (mask other : List ℕ) → cells_of d.size ≤ length mask → cells_of d.size ≤ length other
-    → take (cells_of d.size) (mask_after_drawing Done d mask) ≡ take (cells_of d.size) (mask_after_drawing Done d other)
+    → take (cells_of d.size) (mask_after_drawing (Ok tt) d mask) ≡ take (cells_of d.size) (mask_after_drawing (Ok tt) d other)
 
 -- ---- laying on
 
@@ -82,10 +81,10 @@ pub data FirstLayCause (l : Laying) (lent : Lent) (other : ℕ) : Fault → Type
       → FirstLayCause l lent other BufferTooShort
 
 pub record LaidExactlyWhen : Type 0 where
-  pub done_only : (l : Laying) (lent : Lent) (other : ℕ) → lay_answer l lent other ≡ Done → CanLay l lent other
-  pub done_always : (l : Laying) (lent : Lent) (other : ℕ) → CanLay l lent other → lay_answer l lent other ≡ Done
-  pub refused_only : (l : Laying) (lent : Lent) (other : ℕ) (f : Fault) → lay_answer l lent other ≡ Refused f → FirstLayCause l lent other f
-  pub refused_always : (l : Laying) (lent : Lent) (other : ℕ) (f : Fault) → FirstLayCause l lent other f → lay_answer l lent other ≡ Refused f
+  pub done_only : (l : Laying) (lent : Lent) (other : ℕ) → lay_answer l lent other ≡ Ok tt → CanLay l lent other
+  pub done_always : (l : Laying) (lent : Lent) (other : ℕ) → CanLay l lent other → lay_answer l lent other ≡ Ok tt
+  pub refused_only : (l : Laying) (lent : Lent) (other : ℕ) (f : Fault) → lay_answer l lent other ≡ Err f → FirstLayCause l lent other f
+  pub refused_always : (l : Laying) (lent : Lent) (other : ℕ) (f : Fault) → FirstLayCause l lent other f → lay_answer l lent other ≡ Err f
 
 -- ---- laying on by corners
 
@@ -104,9 +103,9 @@ pub data FirstPlacedCause (p : Placed) (lent : Lent) (other : ℕ) : Fault → T
       → LentShort p.own.size lent ⊎ (other < cells_of p.other.size) → FirstPlacedCause p lent other BufferTooShort
 
 pub record LaidPlacedExactlyWhen : Type 0 where
-  pub done_only : (p : Placed) (lent : Lent) (other : ℕ) → lay_placed_answer p lent other ≡ Done → CanLayPlaced p lent other
-  pub done_always : (p : Placed) (lent : Lent) (other : ℕ) → CanLayPlaced p lent other → lay_placed_answer p lent other ≡ Done
-  pub refused : (p : Placed) (lent : Lent) (other : ℕ) → ForItsFirstCause Refused (lay_placed_answer p lent other) (FirstPlacedCause p lent other)
+  pub done_only : (p : Placed) (lent : Lent) (other : ℕ) → lay_placed_answer p lent other ≡ Ok tt → CanLayPlaced p lent other
+  pub done_always : (p : Placed) (lent : Lent) (other : ℕ) → CanLayPlaced p lent other → lay_placed_answer p lent other ≡ Ok tt
+  pub refused : (p : Placed) (lent : Lent) (other : ℕ) → ForItsFirstCause (lay_placed_answer p lent other) (FirstPlacedCause p lent other)
 
 -- Laying on by corners is laying on by the offset between them: with corners within their limit it answers what that
 -- answers, and it leaves in the mask what that leaves (both contracts cite `mask_after_laying`). With another corner it is
@@ -115,22 +114,22 @@ pub record PlacedIsByOffset : Type 0 where
   pub within : (p : Placed) (lent : Lent) (other : ℕ) → CornerAllowed p.own.corner → CornerAllowed p.other.corner
       → lay_placed_answer p lent other ≡ lay_answer (by_offset p) lent other
   pub beyond : (p : Placed) (lent : Lent) (other : ℕ) → CornerOut p.own.corner ⊎ CornerOut p.other.corner
-      → (lay_placed_answer p lent other ≡ Refused MaskTooLarge) ⊎ (lay_placed_answer p lent other ≡ Refused CornerOutOfRange)
+      → (lay_placed_answer p lent other ≡ Err MaskTooLarge) ⊎ (lay_placed_answer p lent other ≡ Err CornerOutOfRange)
 
 -- ---- ink (document 02, change 9)
 
 -- 'A print loop that sends only those stretches onto blank paper prints the same cells as one that sends every byte', by
 -- the numbers that each done call leaves
 pub record DonePrints : Type 0 where
-  pub drawn : (d : Drawing) (mask ink : List ℕ) → draw_answer d (lent_of mask ink) ≡ Done →
-      let after = mask_after_drawing Done d mask in
-      PrintsTheMask d.size after (ink_after_call Done d.size after ink)
-  pub laid : (l : Laying) (mask ink other : List ℕ) → lay_answer l (lent_of mask ink) (length other) ≡ Done →
-      let after = mask_after_laying Done l mask other in
-      PrintsTheMask l.size after (ink_after_call Done l.size after ink)
-  pub laid_placed : (p : Placed) (mask ink other : List ℕ) → lay_placed_answer p (lent_of mask ink) (length other) ≡ Done →
-      let after = mask_after_laying Done (by_offset p) mask other in
-      PrintsTheMask p.own.size after (ink_after_call Done p.own.size after ink)
+  pub drawn : (d : Drawing) (mask ink : List ℕ) → draw_answer d (lent_of mask ink) ≡ Ok tt →
+      let after = mask_after_drawing (Ok tt) d mask in
+      PrintsTheMask d.size after (ink_after_call (Ok tt) d.size after ink)
+  pub laid : (l : Laying) (mask ink other : List ℕ) → lay_answer l (lent_of mask ink) (length other) ≡ Ok tt →
+      let after = mask_after_laying (Ok tt) l mask other in
+      PrintsTheMask l.size after (ink_after_call (Ok tt) l.size after ink)
+  pub laid_placed : (p : Placed) (mask ink other : List ℕ) → lay_placed_answer p (lent_of mask ink) (length other) ≡ Ok tt →
+      let after = mask_after_laying (Ok tt) (by_offset p) mask other in
+      PrintsTheMask p.own.size after (ink_after_call (Ok tt) p.own.size after ink)
 
 -- ---- the same in the documents' numbers ('Where an answer is an enum, the promises use a definition that gives this
 -- paper's number'): 0 where the call can be done, else that of its first cause
@@ -155,4 +154,4 @@ pub record NumbersExactlyWhen : Type 0 where
   pub lay_always : (l : Laying) (lent : Lent) (other n : ℕ) → LayNumber l lent other n → outcome_number (lay_answer l lent other) ≡ n
   pub placed_only : (p : Placed) (lent : Lent) (other : ℕ) → LayPlacedNumber p lent other (outcome_number (lay_placed_answer p lent other))
   pub placed_always : (p : Placed) (lent : Lent) (other n : ℕ) → LayPlacedNumber p lent other n → outcome_number (lay_placed_answer p lent other) ≡ n
-  pub told_apart : (o p : Outcome) → outcome_number o ≡ outcome_number p → o ≡ p
+  pub told_apart : (o p : Check) → outcome_number o ≡ outcome_number p → o ≡ p

@@ -1,8 +1,7 @@
 -- What the functions of this crate promise to each other. Definitions only.
-use Rattle.std.specs.Prelude.{◌≡◌, cond, ◌||◌, ℕ}
+use Rattle.std.specs.Prelude.{◌≡◌, cond, ◌||◌, ℕ, Ok, Err}
 use Rattle.fault.specs.declared.Fault.TheVariants.{MaskTooLarge, CornerOutOfRange}
-use Rattle.fault.specs.declared.Check.{Check}
-use Rattle.fault.specs.declared.Check.TheVariants as check
+use Rattle.fault.specs.Check.{Check}
 use Rattle.cells.specs.declared.Size.{Size}
 use Rattle.cells.specs.Cells.{too_large}
 use Rattle.cells.specs.Corner.{corner_out}
@@ -11,20 +10,13 @@ use Rattle.laying.specs.declared.Offset.{Offset}
 use Rattle.laying.specs.Laying.{laying}
 use Rattle.laying.specs.Placed.{Placed}
 use Rattle.mask.specs.Calls.{lay_answer}
-use Rattle.mask.specs.declared.Outcome.{Outcome}
-use Rattle.mask.specs.declared.Outcome.TheVariants.{Done, Refused}
-
--- the answer where a call is done unless its check refuses
-abbrev pub outcome_of : Check → Outcome
-outcome_of check.Pass = Done
-outcome_of (check.Refused f) = Refused f
 
 -- a check that tells the answer of a laying-on, whatever its offset, from the sizes and the lengths of what is lent
 pub record LayChecked (size : Size) (lent : Lent) (other_size : Size) (other_length : ℕ) (c : Check) : Type 0 where
-  pub tells : (offset : Offset) → lay_answer (laying size other_size offset) lent other_length ≡ outcome_of c
+  pub tells : (offset : Offset) → lay_answer (laying size other_size offset) lent other_length ≡ c
 
 -- what a laying-on by corners is refused for before the laying-on by the offset between them: 3, then 16
 abbrev pub corners_check : Placed → Check
 corners_check p =
-    cond (too_large p.own.size || too_large p.other.size) (check.Refused MaskTooLarge)
-    (cond (corner_out p.own.corner || corner_out p.other.corner) (check.Refused CornerOutOfRange) check.Pass)
+    cond (too_large p.own.size || too_large p.other.size) (Err MaskTooLarge)
+    (cond (corner_out p.own.corner || corner_out p.other.corner) (Err CornerOutOfRange) (Ok tt))

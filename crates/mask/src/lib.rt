@@ -14,14 +14,6 @@ ghost use Rattle.groups.specs.Steps.{ListCounted};
 use cells::{MaskRecord, Size};
 use fault::{Check, Fault};
 use laying::Offset;
-use words::Scan;
-
-// What a call answers: it is done, or turned away for a cause of document 01's table.
-#[derive(Clone, Copy)]
-pub enum Outcome {
-    Done,
-    Refused(Fault),
-}
 
 // Draws a list without a fault, of so many points, where scratch is long enough. Its ink is kept meanwhile.
 fn draw_in(
@@ -32,7 +24,7 @@ fn draw_in(
     size: Size,
     points: usize,
     words: &[i32],
-) -> Outcome
+) -> Result<(), Fault>
     requires size_allowed { SizeAllowed size × LentEnough size (lent mask.old ink.old) }
     requires list_counted { ListCounted words.now points }
     ensures value { result ≡ draw_answer (drawing size words.now floats.old counters.old) (lent mask.old ink.old) }
@@ -43,10 +35,10 @@ fn draw_in(
     ensures draw_number { DrawNumber (drawing size words.now floats.old counters.old) (lent mask.old ink.old) (outcome_number result) }
 {
     if floats.len() < coverage::floats_needed(size, points) {
-        return Outcome::Refused(Fault::BufferTooShort);
+        return Err(Fault::BufferTooShort);
     }
     if counters.len() < coverage::counters_needed(size) {
-        return Outcome::Refused(Fault::BufferTooShort);
+        return Err(Fault::BufferTooShort);
     }
     let cells = size.width * size.height;
     let numbers = 2 * size.height;
@@ -59,7 +51,7 @@ fn draw_in(
         points,
         words,
     );
-    Outcome::Done
+    Ok(())
 }
 
 // Draws a word list into a mask, over lent scratch, and finds its ink. Words are relative to the mask's corner,
@@ -71,7 +63,7 @@ pub fn rasterize_into(
     words: &[i32],
     floats: &mut [f32],
     counters: &mut [u64],
-) -> Outcome
+) -> Result<(), Fault>
     ensures answer { result ≡ draw_answer (drawing mask_record.size words.now floats.old counters.old) (lent mask.old ink.old) }
     ensures cells { mask.new ≡ mask_after_drawing result (drawing mask_record.size words.now floats.old counters.old) mask.old }
     ensures ink { ink.new ≡ ink_after_call result mask_record.size mask.new ink.old }
@@ -81,15 +73,13 @@ pub fn rasterize_into(
 {
     let size = mask_record.size;
     if size.is_too_large() {
-        return Outcome::Refused(Fault::MaskTooLarge);
+        return Err(Fault::MaskTooLarge);
     }
     if ink::lent_short(size, mask.len(), ink.len()) {
-        return Outcome::Refused(Fault::BufferTooShort);
+        return Err(Fault::BufferTooShort);
     }
-    match words::read_words(words) {
-        Scan::Refused(f) => Outcome::Refused(f),
-        Scan::At(_, points) => draw_in(mask, ink, floats, counters, size, points, words),
-    }
+    let scan = words::read_words(words)?;
+    draw_in(mask, ink, floats, counters, size, scan.points, words)
 }
 
 // 3 for either mask, then 4 for either: whether one of so many bytes, its ink of so many numbers, can have
@@ -104,14 +94,14 @@ fn lay_check(
     ensures { LayChecked size (record { mask = mask_length; ink = ink_length }) other_size other_length result }
 {
     if size.is_too_large() || other_size.is_too_large() {
-        return Check::Refused(Fault::MaskTooLarge);
+        return Err(Fault::MaskTooLarge);
     }
     if ink::lent_short(size, mask_length, ink_length)
         || other_length < other_size.width * other_size.height
     {
-        return Check::Refused(Fault::BufferTooShort);
+        return Err(Fault::BufferTooShort);
     }
-    Check::Pass
+    Ok(())
 }
 
 // Lays the other mask on a mask: multiplies it by the other where they overlap, and clears it
@@ -123,19 +113,17 @@ pub fn intersect(
     other: &[u8],
     other_size: Size,
     offset: Offset,
-) -> Outcome
+) -> Result<(), Fault>
     ensures answer { result ≡ lay_answer (laying size other_size offset) (lent mask.old ink.old) (length other.now) }
     ensures cells { mask.new ≡ mask_after_laying result (laying size other_size offset) mask.old other.now }
     ensures ink { ink.new ≡ ink_after_call result size mask.new ink.old }
     ensures number { LayNumber (laying size other_size offset) (lent mask.old ink.old) (length other.now) (outcome_number result) }
 {
-    if let Check::Refused(fault) = lay_check(size, mask.len(), ink.len(), other_size, other.len()) {
-        return Outcome::Refused(fault);
-    }
+    lay_check(size, mask.len(), ink.len(), other_size, other.len())?;
     let cells = size.width * size.height;
     laying::lay(&mut mask[..cells], size, other, other_size, offset);
     ink::scan(mask, size, ink);
-    Outcome::Done
+    Ok(())
 }
 
 // 3 for either mask, then 16 for either, own mask before the other.
@@ -143,12 +131,12 @@ fn corners_check(own: MaskRecord, other: MaskRecord) -> Check
     ensures { result ≡ corners_check (placed own other) }
 {
     if own.size.is_too_large() || other.size.is_too_large() {
-        return Check::Refused(Fault::MaskTooLarge);
+        return Err(Fault::MaskTooLarge);
     }
     if own.corner.is_out_of_range() || other.corner.is_out_of_range() {
-        return Check::Refused(Fault::CornerOutOfRange);
+        return Err(Fault::CornerOutOfRange);
     }
-    Check::Pass
+    Ok(())
 }
 
 // Lays the other mask on a mask by where their corners lie on the sheet.
@@ -158,15 +146,13 @@ pub fn intersect_placed(
     mask_record: MaskRecord,
     other: &[u8],
     other_record: MaskRecord,
-) -> Outcome
+) -> Result<(), Fault>
     ensures answer { result ≡ lay_placed_answer (placed mask_record other_record) (lent mask.old ink.old) (length other.now) }
     ensures cells { mask.new ≡ mask_after_laying result (by_offset (placed mask_record other_record)) mask.old other.now }
     ensures ink { ink.new ≡ ink_after_call result mask_record.size mask.new ink.old }
     ensures number { LayPlacedNumber (placed mask_record other_record) (lent mask.old ink.old) (length other.now) (outcome_number result) }
 {
-    if let Check::Refused(fault) = corners_check(mask_record, other_record) {
-        return Outcome::Refused(fault);
-    }
+    corners_check(mask_record, other_record)?;
     let offset = Offset::between(mask_record.corner, other_record.corner);
     intersect(
         mask,

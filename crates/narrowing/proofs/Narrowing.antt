@@ -8,14 +8,14 @@ use native.Mathlib.Nat.{lt_of_lt_of_le}
 use native.Mathlib.Omega.{arith}
 use lib.Dec.{T, lit<}
 use lib.Pow.{pow_pos, pow_mono}
-use lib.Ieee.{Float, nan, inf, fin, binary32, binary64, up, down, units, round, ne, eq}
+use lib.Ieee.{Float, nan, inf, fin, binary32, binary64, up, down, units, round, eq, is_nan}
 use lib.Ieee.Exact.{HasValue}
 use lib.Ieee.Fits.{down_pos}
 use lib.Ieee.Nearest.{closest}
 use lib.Ieee.Scale.{round_same, finite}
 use Rattle.narrowing.specs.Width.{narrow_of}
 use Rattle.float.specs.Parts.{Unpacked}
-use Rattle.float.proofs.Tests.{never, is_inf, is_nan_lem}
+use Rattle.float.proofs.Tests.{never, is_inf}
 use Rattle.float.proofs.Shift.{closest_le, closest_ge, closest_none, round_shift}
 
 narrowed_value : (x : Float) (s : Bool) (a c : ℕ) → 0 < c → HasValue x s a c → narrow_of x ≡ round binary32 s a c
@@ -70,13 +70,15 @@ pub of_inf : (t : Bool) (x : Float) → eq x (inf t) ≡ true → inf t ≡ narr
 unfolding narrow_of
 of_inf t x h = rw (is_inf t x h)
 
-pub left_over : (x : Float) → ne x x ≡ false → eq x (inf false) ≡ false → eq x (inf true) ≡ false → T (finite x)
-unfolding eq ne
+pub left_over : (x : Float) → is_nan x ≡ false → eq x (inf false) ≡ false → eq x (inf true) ≡ false → T (finite x)
+unfolding eq is_nan
 left_over nan h k l = never (sym h)
 left_over (inf false) h k l = never (sym k)
 left_over (inf true) h k l = never (sym l)
 left_over (fin s m e) h k l = tt
 
-pub of_nan : (x : Float) → ne x x ≡ true → nan ≡ narrow_of x
-unfolding narrow_of
-of_nan x h = rw (is_nan_lem x h)
+pub of_nan : (x : Float) → is_nan x ≡ true → nan ≡ narrow_of x
+unfolding narrow_of is_nan
+of_nan nan h = refl
+of_nan (inf s) h = never h
+of_nan (fin s m e) h = never h

@@ -49,15 +49,14 @@ fn narrow_finite(x: f64) -> f32
 pub fn narrow(x: f64) -> f32
     ensures { result ≡ narrow_of x }
 {
-    if x != x {
-        return 0.0 / 0.0;
+    if x.is_nan() {
+        return f32::NAN;
     }
-    let top: f64 = 1.0 / 0.0;
-    if x == top {
-        return float::infinity();
+    if x == f64::INFINITY {
+        return f32::INFINITY;
     }
-    if x == -top {
-        return -float::infinity();
+    if x == f64::NEG_INFINITY {
+        return f32::NEG_INFINITY;
     }
     narrow_finite(x)
 }

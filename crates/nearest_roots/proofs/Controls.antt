@@ -7,7 +7,8 @@ use lib.Ieee.{binary32, binary64, of_bits, to_bits, add, mul, round}
 use Rattle.narrowing.specs.Width.{narrow_of}
 use Rattle.float.proofs.Controls.{f32, f64, agrees}
 use Rattle.root_digits.specs.Root.{root_below, whole_root, round_root}
-use Rattle.nearest_roots.specs.Root.{sqrt_of, two_step_of, hypot_of}
+use Rattle.roots.specs.Root.{sqrt_of}
+use Rattle.nearest_roots.specs.Root.{two_step_of, hypot_of}
 
 abbrev hypot : ℕ → ℕ → ℕ
 hypot x y = to_bits binary32 (hypot_of (f32 x) (f32 y))

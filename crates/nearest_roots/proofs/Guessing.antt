@@ -1,5 +1,4 @@
--- What the proofs of `guess`, `midpoint`, `checked_root`, `root32`, `hypot_by_digits` and `hypot` cite. Assumes
--- nothing.
+-- What the proofs of `guess`, `midpoint`, `checked_root`, `sqrt`, `hypot_by_digits` and `hypot` cite. Assumes nothing.
 use mathlib.Core.Path.{◌≡◌, refl, sym, ap, ◌∙◌, subst}
 use mathlib.Core.Logic.{inl, inr}
 use mathlib.Core.Bool.{Bool, true, false, not}
@@ -9,7 +8,7 @@ use native.Mathlib.Omega.{arith}
 use lib.Dec.{T, lit≤}
 use lib.Arith.{le→nltb}
 use lib.Pow.{pow-add, pow_pos, pow_mono, shl_lt}
-use lib.Ieee.{Float, nan, inf, fin, Format, binary32, binary64, hid, ones, top, up, down, add, mul, lt, fits, is_nan, nan_bits}
+use lib.Ieee.{Float, nan, inf, fin, Format, binary32, binary64, hid, ones, top, up, down, add, mul, lt, eq, fits, is_nan, nan_bits}
 use lib.Ieee.Bits.{nan_bits_above}
 use lib.Ieee.Exact.{HasValue}
 use lib.Ieee.Fits.{down_pos, mul-fits}
@@ -26,9 +25,10 @@ use Rattle.float.specs.Parts.{Unpacked}
 use Rattle.float.proofs.Fields.{apart}
 use Rattle.float.proofs.Tests.{never, zero_f}
 use Rattle.square_sums.specs.Squares.{square, Digits, RootOfSquares}
-use Rattle.nearest_roots.specs.Root.{sqrt_of, sum_of_squares, hypot_of}
+use Rattle.roots.specs.Root.{sqrt_of}
+use Rattle.roots.proofs.Rooting.{above, root_positive, cross}
+use Rattle.nearest_roots.specs.Root.{sum_of_squares, hypot_of}
 use Rattle.nearest_roots.specs.Guess.{mid_square_of, Between, Checked}
-use Rattle.nearest_roots.proofs.Rooting.{root_positive, cross}
 use Rattle.nearest_roots.proofs.Exact64.{rescale, square_exact, one, one_pos, held}
 
 -- ---- no NaN
@@ -87,9 +87,22 @@ module _ {x : Float} {s : Bool} {d e : ℕ} (u : Unpacked binary32 x s d e) (p :
   held_root : {r : Float} → Between x r → r ≡ sqrt_of binary32 x
   held_root b = root_of_squares (held (record { fine = known.0; below = λ y f g h. h; above = λ y f g h. h }) known.1 b)
 
--- what `root32` returns
-pub root_held : (x : Float) → T (fits binary32 x) → T (positive x) → {r : Float} → Between x r → r ≡ sqrt_of binary32 x
-root_held x f p b = held_root (apart binary32 x f (positive-finite x p) (record { negative = refl; digits = refl; exponent = refl })) p b
+-- what is below something is no infinity
+not_top : (x H : Float) → lt x H ≡ true → eq x (inf false) ≡ false
+unfolding lt eq
+not_top nan H h = refl
+not_top (fin s m e) H h = refl
+not_top (inf true) H h = refl
+not_top (inf false) nan h = never h
+not_top (inf false) (inf true) h = never h
+not_top (inf false) (inf false) h = never h
+not_top (inf false) (fin s m e) h = never h
+
+-- what `sqrt` returns
+pub root_held : (x : Float) → T (fits binary32 x) → lt zero_f x ≡ true → {r : Float} → Between x r → r ≡ sqrt_of binary32 x
+root_held x f h b =
+    let p = above x h (not_top x (mid_square_of (2 * b.pattern + 1)) b.under) in
+    held_root (apart binary32 x f (positive-finite x p) (record { negative = refl; digits = refl; exponent = refl })) p b
 
 -- ---- hypot of x and y
 

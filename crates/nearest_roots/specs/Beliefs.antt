@@ -1,21 +1,14 @@
--- Why the definitions of Root.antt may be believed. The proofs have an element of each record: proofs/RootBelief.antt.
--- `RootOf` (crate root_digits) says that a value of a format is nearest to a root, ties to even, and `NoneNearer` that
--- no other is nearer. Statements only.
-use Rattle.std.specs.Prelude.{◌≡◌, ◌⊎◌, Bool, false, ℕ, suc, ◌-◌, ◌*◌, ◌^◌, ◌≤◌, ◌<◌, T, ℤ, pos, Float}
-use Rattle.std.specs.Float.{inf, fin, Format, binary32}
-use Rattle.std.specs.Float.Ieee.{up, down, fits}
+-- Why `hypot_of` of Root.antt may be believed. The proofs have an element of `HypotBeliefs`: proofs/RootBelief.antt. Of
+-- the square root it is `RootBeliefs` of crate roots. `RootOf` (crate root_digits) says that a value of a format is
+-- nearest to a root, ties to even, and `NoneNearer` that no other is nearer. Statements only.
+use Rattle.std.specs.Prelude.{◌≡◌, ◌⊎◌, Bool, false, ℕ, ◌-◌, ◌*◌, ◌^◌, ◌≤◌, ◌<◌, T, ℤ, pos, Float}
+use Rattle.std.specs.Float.{inf, fin, binary32}
+use Rattle.std.specs.Float.Ieee.{up, down}
 use Rattle.std.specs.Float.Ieee.Scale.{finite}
 use Rattle.fraction.specs.Fraction.{◌≈ᶠ◌, ◌+ᶠ◌, ◌*ᶠ◌}
 use Rattle.rounding.specs.Value.{val, signedᶠ}
 use Rattle.root_digits.specs.Beliefs.{RootOf, NoneNearer}
-use Rattle.nearest_roots.specs.Root.{sqrt_of, two_step_of, sum_of_squares, hypot_of}
-
--- ---- document 01: 'root is IEEE 754's'
-pub record RootBeliefs : Type 0 where
-  -- the root of a value above 0 is the format's value nearest to it, ties to even
-  pub sqrt_nearest : (f : Format) (m : ℕ) (e : ℤ) → RootOf f (suc m * up e) (down e) (sqrt_of f (fin false (suc m) e))
-  -- and it is finite
-  pub sqrt_finite : (f : Format) (m : ℕ) (e : ℤ) → T (fits f (fin false (suc m) e)) → T (finite (sqrt_of f (fin false (suc m) e)))
+use Rattle.nearest_roots.specs.Root.{two_step_of, sum_of_squares, hypot_of}
 
 -- ---- document 02, change 11
 

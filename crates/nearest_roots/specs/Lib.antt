@@ -1,6 +1,4 @@
--- Root: square roots, hypot. Beliefs: what they are. Digits, Guess: what the functions that find a root promise to each
--- other.
+-- Root: hypot. Beliefs: what it is. Guess: what the functions that find a root promise to each other.
 pub mod Root
 pub mod Beliefs
-pub mod Digits
 pub mod Guess

@@ -1,90 +1,14 @@
-// Square roots and hypot, which the language lacks. Each contract gives the result outright, for every
+// Square roots and hypot. Each contract gives the result outright, for every
 // argument, as a definition of specs/. At f32 both take a guess by floats where an exact check holds
-// it, and else whole numbers.
+// it, and else whole numbers; at f64 the square root is that of the crate roots.
 #![tactic(auto)]
 
-ghost use Rattle.std.specs.Prelude.{◌≡◌, ◌⊎◌, ◌*◌, ◌^◌, ◌≤◌, ◌<◌, T};
+ghost use Rattle.std.specs.Prelude.{◌≡◌, ◌*◌, ◌^◌, ◌≤◌, ◌<◌, T};
 ghost use Rattle.std.specs.Float.{binary32, binary64};
-ghost use Rattle.std.specs.Float.Ieee.Positive.{positive};
 ghost use Rattle.std.specs.Float.Ieee.Scale.{finite};
-ghost use Rattle.nearest_roots.specs.Root.{sqrt_of, hypot_of};
-ghost use Rattle.nearest_roots.specs.Digits.{AlignedBy, RootParts};
+ghost use Rattle.roots.specs.Root.{sqrt_of};
+ghost use Rattle.nearest_roots.specs.Root.{hypot_of};
 ghost use Rattle.nearest_roots.specs.Guess.{Guessed, midpoint_of, Checked};
-
-use float::Parts;
-
-// ---- a root by its digits
-
-#[derive(Clone, Copy)]
-struct Aligned {
-    a: u64,
-    shift: u64,
-}
-
-// d moved up as far as 64 digits allow with e + shift even.
-fn align(d: u64, e: u64) -> Aligned
-    requires d_nonzero { 0 < d }
-    requires d_bound { d < 2 ^ 60 }
-    requires e_bound { e < 2 ^ 12 }
-    ensures { AlignedBy d e result.a result.shift }
-{
-    let zeros = u64::leading_zeros(d) as u64;
-    let shift = zeros - (e + zeros) % 2;
-    Aligned {
-        a: d << shift,
-        shift,
-    }
-}
-
-// The root of d * 2 ^ e of a format's smallest values, to the `keep` digits of the format. The bias
-// is low + 64 - 2 * keep where the smallest value is 2 ^ -low: e in steps of a root's unit.
-fn root_parts(d: u64, e: u64, keep: u64, bias: u64) -> Parts
-    requires d_nonzero { 0 < d }
-    requires d_bound { d < 2 ^ keep }
-    requires fact { (keep ≡ 24) ⊎ (keep ≡ 53) }
-    requires e_bound { e < 2 ^ 11 }
-    requires le_bias { 64 ≤ bias }
-    requires bias_bound { bias < 2 ^ 11 }
-    ensures { RootParts d e keep bias result.digits result.exponent }
-{
-    let up = align(d, e + bias);
-    let r = root_digits::root_digits(up.a, keep + 1);
-    Parts {
-        negative: false,
-        digits: root_digits::round_root(r.root, r.rest),
-        exponent: (e + bias - up.shift) / 2,
-    }
-}
-
-// The root of a number above 0, rounded once.
-fn root32_by_digits(x: f32) -> f32
-    requires { T (positive x) }
-    ensures { result ≡ sqrt_of binary32 x }
-{
-    let p = float::unpack32(x);
-    let r = root_parts(p.digits, p.exponent, 24, 165);
-    float::pack32(false, r.digits, r.exponent)
-}
-
-fn root64(x: f64) -> f64
-    requires { T (positive x) }
-    ensures { result ≡ sqrt_of binary64 x }
-{
-    let p = float::unpack64(x);
-    let r = root_parts(p.digits, p.exponent, 53, 1032);
-    float::pack64(false, r.digits, r.exponent)
-}
-
-// The root of the exact sum of the squares of finite x and y, rounded once.
-fn hypot_by_digits(x: f32, y: f32) -> f32
-    requires t { T (finite x) }
-    requires t_2 { T (finite y) }
-    ensures { result ≡ hypot_of x y }
-{
-    let p = float::unpack32(x);
-    let q = float::unpack32(y);
-    square_sums::root_of_squares(p.digits, p.exponent, q.digits, q.exponent)
-}
 
 // ---- a root by a guess
 
@@ -143,47 +67,34 @@ fn checked_root(v: f64) -> f32
 
 // ---- the roots
 
-fn root32(x: f32) -> f32
-    requires { T (positive x) }
-    ensures { result ≡ sqrt_of binary32 x }
-{
-    let root = checked_root(float::widen(x));
-    if root > 0.0 {
-        return root;
-    }
-    root32_by_digits(x)
-}
-
 // IEEE 754's square root.
 pub fn sqrt64(x: f64) -> f64
     ensures { result ≡ sqrt_of binary64 x }
 {
-    if x > 0.0 {
-        let top: f64 = 1.0 / 0.0;
-        if x == top {
-            return x;
-        }
-        return root64(x);
-    }
-    if x == 0.0 {
-        return x;
-    }
-    0.0 / 0.0
+    roots::sqrt64(x)
 }
 
 pub fn sqrt(x: f32) -> f32
     ensures { result ≡ sqrt_of binary32 x }
 {
     if x > 0.0 {
-        if x == float::infinity() {
-            return x;
+        let root = checked_root(float::widen(x));
+        if root > 0.0 {
+            return root;
         }
-        return root32(x);
     }
-    if x == 0.0 {
-        return x;
-    }
-    0.0 / 0.0
+    roots::sqrt(x)
+}
+
+// The root of the exact sum of the squares of finite x and y, rounded once.
+fn hypot_by_digits(x: f32, y: f32) -> f32
+    requires t { T (finite x) }
+    requires t_2 { T (finite y) }
+    ensures { result ≡ hypot_of x y }
+{
+    let p = float::unpack32(x);
+    let q = float::unpack32(y);
+    square_sums::root_of_squares(p.digits, p.exponent, q.digits, q.exponent)
 }
 
 // The f32 nearest to the root of the exact sum of squares; where an argument is not finite, the f64

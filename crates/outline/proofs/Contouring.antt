@@ -11,15 +11,13 @@ use lib.Ieee.{Float}
 use Rattle.geometry.specs.declared.Position.{Position}
 use Rattle.fault.specs.declared.Fault.{Fault}
 use Rattle.path.specs.declared.PackedVerb.{PackedVerb}
-use Rattle.path.specs.declared.Unpacked.TheVariants as unpacked
 use Rattle.path.specs.declared.Verb.{Verb}
 use Rattle.path.specs.declared.Verb.TheVariants as verb
 use Rattle.path.specs.Verbs.{unpacked_of, num_coordinates_of, from_packed_of}
 use Rattle.outline.specs.declared.Segment.{Segment}
 use Rattle.outline.specs.declared.Segment.TheVariants as segment
 use Rattle.outline.specs.declared.Walk.{Walk}
-use Rattle.outline.specs.declared.Step.{Step}
-use Rattle.outline.specs.declared.Step.TheVariants as step
+use Rattle.std.specs.Prelude.{Ok, Err, Option, Some, None}
 use Rattle.outline.specs.Outline.{most_verbs, most_points, floats_of, floats_needed_of}
 use Rattle.outline.specs.Contour.{
   Contour,
@@ -118,7 +116,7 @@ unfolding contour_from
 stays_stopped [] positions at = refl
 stays_stopped (b ∷ bytes) positions at = refl
 
-step_of_stop : (z : Walked) → step.Stop ≡ step_of z → z ≡ stopped
+step_of_stop : (z : Walked) → None ≡ step_of z → z ≡ stopped
 step_of_stop stopped h = refl
 step_of_stop (reached k) h = let never : ◌≡◌ {A = ℕ} 0 1 = cc in absurd (omega arith)
 
@@ -162,10 +160,10 @@ module _ {Kept : Contour → Type 0} {verbs : List ℕ} {positions : List Float}
     none_from : from_next stopped ≡ stopped
     none_from = stays_stopped (drop (i + 1) verbs) positions (at + floats_of byte)
 
-    pub bad_byte : {f : Fault} → unpacked_of byte ≡ unpacked.Refused f → contour_of verbs positions ≡ stopped
+    pub bad_byte : {f : Fault} → unpacked_of byte ≡ Err f → contour_of verbs positions ≡ stopped
     bad_byte u = next_verb ∙ rw u none_from
 
-    module _ {p : PackedVerb} (u : unpacked_of byte ≡ unpacked.Verb p) where
+    module _ {p : PackedVerb} (u : unpacked_of byte ≡ Ok p) where
       takes : floats_of byte ≡ 2 * num_coordinates_of p
       unfolding floats_of
       takes = rw u
@@ -173,31 +171,32 @@ module _ {Kept : Contour → Type 0} {verbs : List ℕ} {positions : List Float}
       pub room : at + 2 * num_coordinates_of p ≤ length positions
       room = let l = s.left in let t = takes in let n = floats_next verbs i next_one in omega arith
 
-      module _ {v : Verb} (e : v ≡ from_packed_of p positions at) {r : Step}
+      module _ {v : Verb} (e : v ≡ from_packed_of p positions at) {r : Option Walk}
           (told : (k : Contour) → w ≡ walk_of k → r ≡ step_of (contour_step_of k v)) where
         onward : (z : Walked) → contour_step_of s.contour v ≡ z → contour_of verbs positions ≡ from_next z
         onward z g = next_verb ∙ rw (u, ← e, g)
 
-        pub stops : r ≡ step.Stop → contour_of verbs positions ≡ stopped
+        pub stops : r ≡ None → contour_of verbs positions ≡ stopped
         stops h = onward stopped (step_of_stop (contour_step_of s.contour v) (sym h ∙ told s.contour s.stands)) ∙ none_from
 
         -- what the loop keeps from now on holds of the contour after the verb
-        module _ {next : Walk} (h : r ≡ step.Go next) {f : ℕ} (takes-f : f ≡ floats_of byte) {Kept₁ : Contour → Type 0}
+        module _ {next : Walk} (h : r ≡ Some next) {f : ℕ} (takes-f : f ≡ 2 * num_coordinates_of p) {Kept₁ : Contour → Type 0}
             (keeps : Holds Kept₁ (contour_step_of s.contour v)) where
           goes_by : (z : Walked) → contour_step_of s.contour v ≡ z → Holds Kept₁ z → Holds (Few (i + 1)) z
               → Walking Kept₁ verbs positions next (i + 1) (at + f)
           goes_by stopped g q few =
-              let never : step.Go next ≡ step.Stop = sym h ∙ told s.contour s.stands ∙ ap step_of g in
+              let never : ◌≡◌ {A = Option Walk} (Some next) None = sym h ∙ told s.contour s.stands ∙ ap step_of g in
               let z : ◌≡◌ {A = ℕ} 0 1 = cc in
               absurd (omega arith)
           goes_by (reached k₁) g q few =
-              let same : step.Go next ≡ step.Go (walk_of k₁) = sym h ∙ told s.contour s.stands ∙ ap step_of g in
+              let same : ◌≡◌ {A = Option Walk} (Some next) (Some (walk_of k₁)) = sym h ∙ told s.contour s.stands ∙ ap step_of g in
               let l = s.left in
+              let t = takes in
               let n = floats_next verbs i next_one in
               record {
                 contour = k₁;
                 stands = cc;
-                ahead = rw takes-f (sym (onward (reached k₁) g));
+                ahead = rw (takes-f ∙ sym takes) (sym (onward (reached k₁) g));
                 kept = q;
                 few = few;
                 left = omega arith;

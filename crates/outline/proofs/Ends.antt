@@ -3,9 +3,8 @@ use mathlib.Core.Path.{◌≡◌, refl, sym, ap, ◌∙◌, subst}
 use mathlib.Core.Bool.{Bool, true, cond}
 use mathlib.Core.List.{List, [], ◌∷◌, ◌++◌}
 use Prim.Native.Nat.{ℕ, ◌+◌, ◌≤◌, ◌<◌}
-use native.Mathlib.Nat.{le_refl}
 use native.Mathlib.Omega.{arith}
-use lib.ListN.{length, set, length-append, length-set}
+use lib.ListN.{length, set, take, length-append, length-set}
 use lib.Ieee.{Float}
 use Rattle.geometry.specs.declared.Position.{Position}
 use Rattle.path.specs.declared.Verb.{Verb}
@@ -13,22 +12,21 @@ use Rattle.path.specs.declared.Verb.TheVariants as verb
 use Rattle.outline.specs.declared.Segment.{Segment}
 use Rattle.outline.specs.declared.Segment.TheVariants as segment
 use Rattle.outline.specs.declared.Walk.{Walk}
-use Rattle.outline.specs.declared.Step.TheVariants as step
+use Rattle.std.specs.Prelude.{Some}
 use Rattle.outline.specs.Outline.{most_points, most_verbs}
 use Rattle.outline.specs.Contour.{Contour, new_contour, pushed_of, contour_step_of, contour_of, line_points_of, all_lines_of}
-use Rattle.outline.specs.Kept.{walk_of, points_in, Ended}
+use Rattle.outline.specs.Kept.{walk_of, Ended}
 use Rattle.outline.proofs.Walking.{lines_and_line, lines_and_curve}
-use Rattle.outline.proofs.Points.{points_none, stored_below, stored_next}
+use Rattle.std.proofs.lemmas.List.{take-set, take_more_set}
 use Rattle.outline.proofs.Contouring.{Holds, Walking, moved, lined, curved, most, ended_at, ended_few}
 
 -- the ends but the last are stored
-pub record Ends (xs ys : List Float) (k : Contour) : Type 0 where
-  pub ends : all_lines_of k.segments ≡ true → points_in xs ys (length k.segments) ++ (k.last ∷ []) ≡ k.start ∷ line_points_of k.segments
-  pub widex : length xs ≡ most_points
-  pub widey : length ys ≡ most_points
+pub record Ends (points : List Position) (k : Contour) : Type 0 where
+  pub ends : all_lines_of k.segments ≡ true → take (length k.segments) points ++ (k.last ∷ []) ≡ k.start ∷ line_points_of k.segments
+  pub wide : length points ≡ most_points
 
-pub no_ends : {xs ys : List Float} → length xs ≡ most_points → length ys ≡ most_points → Ends xs ys new_contour
-no_ends a b = record { ends = λ h. rw points_none; widex = a; widey = b }
+pub no_ends : {points : List Position} → length points ≡ most_points → Ends points new_contour
+no_ends wide = record { ends = λ h. refl; wide = wide }
 
 points_and_line : (ss : List Segment) (x y : Float) → line_points_of (ss ++ (segment.Line x y ∷ [])) ≡ line_points_of ss ++ (record { x = x; y = y } ∷ [])
 points_and_line [] x y = refl
@@ -37,59 +35,53 @@ points_and_line (segment.Cubic a b c d e f ∷ ss) x y = points_and_line ss x y
 
 -- ---- one verb, the last end stored first
 
-module _ {xs ys : List Float} (k : Contour) (e : Ends xs ys k) (few : length k.segments ≤ most_verbs) where
+module _ {points : List Position} (k : Contour) (e : Ends points k) (few : length k.segments ≤ most_verbs) where
   abbrev n : ℕ
   n = length k.segments
 
-  abbrev xs₁ : List Float
-  xs₁ = set xs n k.last.x
+  abbrev points₁ : List Position
+  points₁ = set points n k.last
 
-  abbrev ys₁ : List Float
-  ys₁ = set ys n k.last.y
+  room : n < length points
+  room = rw e.wide (omega arith)
 
-  inside : (l : List Float) → length l ≡ most_points → n < length l
-  inside l g = rw g (omega arith)
-
-  with_ends : {k₁ : Contour} → (all_lines_of k₁.segments ≡ true → points_in xs₁ ys₁ (length k₁.segments) ++ (k₁.last ∷ []) ≡ k₁.start ∷ line_points_of k₁.segments)
-      → Ends xs₁ ys₁ k₁
-  with_ends h = record { ends = h; widex = rw length-set e.widex; widey = rw length-set e.widey }
+  with_ends : {k₁ : Contour} → (all_lines_of k₁.segments ≡ true → take (length k₁.segments) points₁ ++ (k₁.last ∷ []) ≡ k₁.start ∷ line_points_of k₁.segments)
+      → Ends points₁ k₁
+  with_ends h = record { ends = h; wide = rw length-set e.wide }
 
   -- the same segments and the same last position
-  still : Ends xs₁ ys₁ k
-  still = with_ends (λ h. rw (stored_below xs ys n k.last.x k.last.y n (le_refl n)) (e.ends h))
+  still : Ends points₁ k
+  still = with_ends (λ h. rw take-set (e.ends h))
 
-  pub all_stored : all_lines_of k.segments ≡ true → points_in xs₁ ys₁ (n + 1) ≡ k.start ∷ line_points_of k.segments
-  all_stored h = stored_next xs ys n k.last.x k.last.y (inside xs e.widex) (inside ys e.widey) ∙ e.ends h
+  pub all_stored : all_lines_of k.segments ≡ true → take (n + 1) points₁ ≡ k.start ∷ line_points_of k.segments
+  all_stored h = take_more_set points n k.last room ∙ e.ends h
 
-  by_line : (x y : Float) → Ends xs₁ ys₁ (pushed_of k (segment.Line x y) (record { x = x; y = y }))
+  by_line : (x y : Float) → Ends points₁ (pushed_of k (segment.Line x y) (record { x = x; y = y }))
   by_line x y =
       with_ends
       (λ h. rw (length-append, points_and_line)
       (ap (λ (l : List Position). l ++ (record { x = x; y = y } ∷ [])) (all_stored (sym (lines_and_line k.segments x y) ∙ h))))
 
-  by_curve : (a b c d x y : Float) → Ends xs₁ ys₁ (pushed_of k (segment.Cubic a b c d x y) (record { x = x; y = y }))
+  by_curve : (a b c d x y : Float) → Ends points₁ (pushed_of k (segment.Cubic a b c d x y) (record { x = x; y = y }))
   by_curve a b c d x y = with_ends (λ h. absurd (subst (λ (t : Bool). cond t ⊥ Unit) (sym (lines_and_curve k.segments a b c d x y) ∙ h) tt))
 
-  pub ends_after : (v : Verb) → Holds (Ends xs₁ ys₁) (contour_step_of k v)
-  ends_after (verb.MoveTo x y) = moved k (Ends xs₁ ys₁) (λ p none. with_ends (λ h. rw (none, points_none))) (record { x = x; y = y })
-  ends_after (verb.LineTo x y) = lined k (Ends xs₁ ys₁) still x y (by_line x y)
-  ends_after (verb.BezierTo a b c d x y) = curved k (Ends xs₁ ys₁) a b c d x y (by_curve a b c d x y)
+  pub ends_after : (v : Verb) → Holds (Ends points₁) (contour_step_of k v)
+  ends_after (verb.MoveTo x y) = moved k (Ends points₁) (λ p none. with_ends (λ h. rw none refl)) (record { x = x; y = y })
+  ends_after (verb.LineTo x y) = lined k (Ends points₁) still x y (by_line x y)
+  ends_after (verb.BezierTo a b c d x y) = curved k (Ends points₁) a b c d x y (by_curve a b c d x y)
   ends_after verb.Solid = still
   ends_after verb.Hole = still
   ends_after verb.Close = with_ends still.ends
 
 -- ---- the loop
 
-module _ {xs ys : List Float} {verbs : List ℕ} {positions : List Float} {w : Walk} {i at : ℕ} (s : Walking (Ends xs ys) verbs positions w i at)
+module _ {points : List Position} {verbs : List ℕ} {positions : List Float} {w : Walk} {i at : ℕ} (s : Walking (Ends points) verbs positions w i at)
     (small : length verbs ≤ most_verbs) where
-  abbrev Stored-last : Contour → Type 0
-  Stored-last = Ends (set xs w.count w.lx) (set ys w.count w.ly)
-
-  pub ends_kept : (v : Verb) → Holds Stored-last (contour_step_of s.contour v)
+  pub ends_kept : (v : Verb) → Holds (Ends (set points w.count w.last)) (contour_step_of s.contour v)
   unfolding walk_of
   ends_kept v = rw s.stands (ends_after s.contour s.kept (most s small) v)
 
-  pub ends_all : length verbs ≤ i → Ended (contour_of verbs positions) (step.Go w) (set xs w.count w.lx) (set ys w.count w.ly)
+  pub ends_all : length verbs ≤ i → Ended (contour_of verbs positions) (Some w) (set points w.count w.last)
   unfolding walk_of
   ends_all done =
       rw (ended_at s done, s.stands)

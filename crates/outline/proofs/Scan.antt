@@ -1,8 +1,8 @@
 -- Loops that pass over a list from its first element: what is left to do, with one element less. Assumes nothing.
 use mathlib.Core.Path.{◌≡◌, refl}
-use mathlib.Core.Bool.{Bool, true, false, ◌&&◌}
-use mathlib.Core.List.{List, []}
-use Prim.Native.Nat.{ℕ, ◌+◌, ◌*◌, ◌≤◌, ◌<◌}
+use mathlib.Core.Bool.{Bool, true, false}
+use mathlib.Core.List.{List, [], ◌∷◌}
+use Prim.Native.Nat.{ℕ, zero, suc, ◌+◌, ◌*◌, ◌≤◌, ◌<◌}
 use native.Mathlib.Numerals.{add-one}
 use native.Mathlib.Omega.{arith}
 use lib.ListN.{length, get_or, drop, drop_of_length-le}
@@ -10,13 +10,10 @@ use lib.Seq.{drop-cons}
 use lib.Ieee.{Float, nan}
 use Rattle.path.specs.declared.PackedVerb.{PackedVerb}
 use Rattle.path.specs.declared.PackedVerb.TheVariants as packed
-use Rattle.path.specs.declared.Unpacked.{Unpacked}
-use Rattle.path.specs.declared.Unpacked.TheVariants as unpacked
 use Rattle.path.specs.Verbs.{unpacked_of, num_coordinates_of}
 use Rattle.fault.specs.declared.Fault.{Fault}
-use Rattle.fault.specs.declared.Check.{Check}
-use Rattle.fault.specs.declared.Check.TheVariants as check
-use Rattle.fault.specs.Check.{◌and_then◌}
+use Rattle.fault.specs.Check.{Check, ◌and_then◌}
+use Rattle.std.specs.Prelude.{Result, Ok, Err, IsTrue, EachIndex, ◌↔◌}
 use Rattle.shape.specs.Checks.{in_range_of}
 use Rattle.outline.specs.Outline.{verb_check_of, verbs_check_of, floats_by, floats_of, floats_needed_of, all_in_range_of}
 
@@ -39,33 +36,34 @@ verbs_next verbs i h = rw (drop-cons verbs i 0 h, add-one i)
 
 module _ {verbs : List ℕ} {i : ℕ} (s : Left verbs_check_of verbs i) where
   module _ (l : i < length verbs) {c : Check} (e : c ≡ verb_check_of (get_or verbs i 0)) where
-    pub verb_refused : {f : Fault} → c ≡ check.Refused f → check.Refused f ≡ verbs_check_of verbs
+    pub verb_refused : {f : Fault} → c ≡ Err f → Err f ≡ verbs_check_of verbs
     verb_refused h = rw (← s.same, verbs_next verbs i l, ← e, h)
 
-    pub verb_passes : c ≡ check.Pass → Left verbs_check_of verbs (i + 1)
+    pub verb_passes : c ≡ Ok tt → Left verbs_check_of verbs (i + 1)
     verb_passes h = record { most = omega arith; same = rw (← s.same, verbs_next verbs i l, ← e, h) }
 
-  pub verbs_pass : length verbs ≤ i → check.Pass ≡ verbs_check_of verbs
+  pub verbs_pass : length verbs ≤ i → Ok tt ≡ verbs_check_of verbs
   unfolding verbs_check_of
   verbs_pass h = left_none s h
 
--- ---- the positions' numbers: one that is out of range ends the loop
-range_next : (xs : List Float) (i : ℕ) → i < length xs
-    → all_in_range_of (drop i xs) ≡ (in_range_of (get_or xs i nan) && all_in_range_of (drop (i + 1) xs))
+-- ---- the positions' numbers
+abbrev pub InRange : List Float → ℕ → Type 0
+InRange xs i = IsTrue (in_range_of (get_or xs i nan))
+
+each_in : (xs : List Float) → EachIndex xs (InRange xs) → all_in_range_of xs ≡ true
 unfolding all_in_range_of
-range_next xs i h = rw (drop-cons xs i nan h, add-one i)
+each_in [] h = refl
+each_in (x ∷ xs) h = rw (h 0 (omega arith), each_in xs (λ k l. h (suc k) (omega arith)))
 
-module _ {xs : List Float} {i : ℕ} (s : Left all_in_range_of xs i) where
-  module _ (l : i < length xs) {t : Bool} (e : t ≡ in_range_of (get_or xs i nan)) where
-    pub number_out : t ≡ false → false ≡ all_in_range_of xs
-    number_out h = rw (← s.same, range_next xs i l, ← e, h)
+in_each : (xs : List Float) → all_in_range_of xs ≡ true → EachIndex xs (InRange xs)
+unfolding all_in_range_of
+in_each [] h k l = absurd (omega arith)
+in_each (x ∷ xs) h zero l = grind arith
+in_each (x ∷ xs) h (suc k) l = in_each xs (grind arith) k (omega arith)
 
-    pub number_in : t ≡ true → Left all_in_range_of xs (i + 1)
-    number_in h = record { most = omega arith; same = rw (← s.same, range_next xs i l, ← e, h) }
-
-  pub numbers_in : length xs ≤ i → true ≡ all_in_range_of xs
-  unfolding all_in_range_of
-  numbers_in h = left_none s h
+pub numbers_in : (xs : List Float) (t : Bool) → IsTrue t ↔ EachIndex xs (InRange xs) → t ≡ all_in_range_of xs
+numbers_in xs true h = let each = each_in xs in grind arith
+numbers_in xs false h = let each = in_each xs in grind arith
 
 -- ---- the floats that the verbs' positions take
 pub floats_next : (verbs : List ℕ) (i : ℕ) → i < length verbs
@@ -81,9 +79,9 @@ packed_le packed.Solid = omega arith
 packed_le packed.Hole = omega arith
 packed_le packed.Close = omega arith
 
-unpacked_le : (u : Unpacked) → floats_by u ≤ 6
-unpacked_le (unpacked.Verb p) = packed_le p
-unpacked_le (unpacked.Refused f) = omega arith
+unpacked_le : (u : Result PackedVerb Fault) → floats_by u ≤ 6
+unpacked_le (Ok p) = packed_le p
+unpacked_le (Err f) = omega arith
 
 pub floats_le : (byte : ℕ) → floats_of byte ≤ 6
 unfolding floats_of

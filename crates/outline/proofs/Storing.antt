@@ -1,73 +1,78 @@
 -- The loop that keeps the segments. Assumes nothing.
-use mathlib.Core.Path.{◌≡◌, ap, ◌∙◌}
+use mathlib.Core.Path.{◌≡◌, refl, sym, ap, ◌∙◌}
 use mathlib.Core.List.{List, [], ◌∷◌, ◌++◌}
 use Prim.Native.Nat.{ℕ, ◌≤◌, ◌<◌}
-use native.Mathlib.Nat.{le_refl}
-use lib.ListN.{length, set, length-append, length-set}
+use native.Mathlib.Omega.{arith}
+use lib.ListN.{length, length-append}
 use lib.Ieee.{Float}
-use Rattle.geometry.specs.declared.Position.{Position}
 use Rattle.path.specs.declared.Verb.{Verb}
 use Rattle.path.specs.declared.Verb.TheVariants as verb
 use Rattle.outline.specs.declared.Segment.{Segment}
-use Rattle.outline.specs.declared.Segment.TheVariants as segment
-use Rattle.outline.specs.declared.Piece.{Piece}
 use Rattle.outline.specs.declared.Walk.{Walk}
-use Rattle.outline.specs.Outline.{most_verbs}
-use Rattle.outline.specs.Contour.{Contour, new_contour, pushed_of, contour_step_of, contour_of}
-use Rattle.outline.specs.Kept.{segments_in, candidate_of, StoredAt, Stored}
-use Rattle.outline.proofs.Pieces.{segments_none, pieces_below, pieces_next}
-use Rattle.outline.proofs.Contouring.{Holds, Walking, moved, lined, curved, count_is, ended_at}
+use Rattle.outline.specs.Contour.{Contour, Walked, stopped, reached, contour_step_of, contour_of}
+use Rattle.std.specs.Prelude.{Option, Some}
+use Rattle.outline.specs.Kept.{walk_of, step_of, candidate_of, Stored}
+use Rattle.outline.proofs.Contouring.{Holds, Walking, moved, lined, curved, ended_at}
 
-pub none_stored : {pieces : List Piece} → length pieces ≡ most_verbs → StoredAt new_contour pieces
-none_stored {pieces} a = record { kept = segments_none pieces; wide = a }
+-- the segments of a contour
+abbrev pub Pieces : List Segment → Contour → Type 0
+Pieces segments k = segments ≡ k.segments
 
--- the pieces of a contour
-abbrev pub Pieces : List Piece → Contour → Type 0
-Pieces pieces k = StoredAt k pieces
+-- a verb adds its segment, or none
+data Adds (before : List Segment) (s : Segment) (after : List Segment) : Type 0 where
+  none : after ≡ before → Adds before s after
+  one : after ≡ before ++ (s ∷ []) → Adds before s after
 
--- ---- one verb, the segment that it may add stored first
+adds_after : (k : Contour) (v : Verb) → Holds (λ k₁. Adds k.segments (candidate_of v) k₁.segments) (contour_step_of k v)
+adds_after k (verb.MoveTo x y) = moved k (λ k₁. Adds k.segments (candidate_of (verb.MoveTo x y)) k₁.segments) (λ p e. none refl) (record { x = x; y = y })
+adds_after k (verb.LineTo x y) = lined k (λ k₁. Adds k.segments (candidate_of (verb.LineTo x y)) k₁.segments) (none refl) x y (one refl)
+adds_after k (verb.BezierTo a b c d x y) = curved k (λ k₁. Adds k.segments (candidate_of (verb.BezierTo a b c d x y)) k₁.segments) a b c d x y (one refl)
+adds_after k verb.Solid = none refl
+adds_after k verb.Hole = none refl
+adds_after k verb.Close = none refl
 
-module _ {pieces : List Piece} (k : Contour) (kept : Pieces pieces k) (fits : length k.segments < most_verbs) where
-  abbrev n : ℕ
-  n = length k.segments
+counts : {w : Walk} (k : Contour) → w ≡ walk_of k → w.count ≡ length k.segments
+unfolding walk_of
+counts k e = rw e
 
-  abbrev after : Segment → List Piece
-  after s = set pieces n (record { segment = s })
+module _ {segments : List Segment} (k : Contour) (kept : Pieces segments k) {w : Walk} (stands : w ≡ walk_of k) (s : Segment) {next : Walk} where
+  follows : (k₁ : Contour) → Some next ≡ step_of (reached k₁) → next.count ≡ length k₁.segments
+  follows k₁ e =
+      let same : next ≡ walk_of k₁ = let z : ◌≡◌ {A = Option Walk} (Some next) (Some (walk_of k₁)) = e in cc in
+      counts k₁ same
 
-  with_kept : (s : Segment) {k₁ : Contour} → segments_in (after s) (length k₁.segments) ≡ k₁.segments → Pieces (after s) k₁
-  with_kept s h = record { kept = h; wide = rw length-set kept.wide }
+  adds_one : (z : Walked) → Some next ≡ step_of z → Holds (λ k₁. Adds k.segments s k₁.segments) z → w.count < next.count
+      → Holds (Pieces (segments ++ (s ∷ []))) z
+  adds_one stopped e a l = tt
+  adds_one (reached k₁) e (none h) l =
+      let m = follows k₁ e in
+      let n = counts k stands in
+      let same = ap length h in
+      absurd (omega arith)
+  adds_one (reached k₁) e (one h) l = rw kept (sym h)
 
-  -- the same segments
-  same : (s : Segment) → segments_in (after s) n ≡ k.segments
-  same s = pieces_below pieces n (record { segment = s }) n (le_refl n) ∙ kept.kept
-
-  pushed : (s : Segment) (p : Position) → Pieces (after s) (pushed_of k s p)
-  pushed s p =
-      let inside : n < length pieces = rw kept.wide fits in
-      with_kept s
-      (rw length-append (pieces_next pieces n (record { segment = s }) inside ∙ ap (λ (l : List Segment). l ++ (s ∷ [])) kept.kept))
-
-  pub pieces_after : (v : Verb) → Holds (Pieces (after (candidate_of v))) (contour_step_of k v)
-  pieces_after (verb.MoveTo x y) =
-      let s = segment.Line x y in
-      moved k (Pieces (after s)) (λ p none. with_kept s (same s)) (record { x = x; y = y })
-  pieces_after (verb.LineTo x y) =
-      let s = segment.Line x y in
-      lined k (Pieces (after s)) (with_kept s (same s)) x y (pushed s (record { x = x; y = y }))
-  pieces_after (verb.BezierTo a b c d x y) =
-      let s = segment.Cubic a b c d x y in
-      curved k (Pieces (after s)) a b c d x y (pushed s (record { x = x; y = y }))
-  pieces_after verb.Solid = with_kept (candidate_of verb.Solid) (same (candidate_of verb.Solid))
-  pieces_after verb.Hole = with_kept (candidate_of verb.Hole) (same (candidate_of verb.Hole))
-  pieces_after verb.Close = with_kept (candidate_of verb.Close) (same (candidate_of verb.Close))
+  adds_none : (z : Walked) → Some next ≡ step_of z → Holds (λ k₁. Adds k.segments s k₁.segments) z → next.count ≤ w.count
+      → Holds (Pieces segments) z
+  adds_none stopped e a l = tt
+  adds_none (reached k₁) e (none h) l = kept ∙ sym h
+  adds_none (reached k₁) e (one h) l =
+      let m = follows k₁ e in
+      let n = counts k stands in
+      let more = ap length h ∙ length-append k.segments (s ∷ []) in
+      absurd (omega arith)
 
 -- ---- the loop
 
-module _ {pieces : List Piece} {verbs : List ℕ} {positions : List Float} {w : Walk} {i at : ℕ}
-    (s : Walking (Pieces pieces) verbs positions w i at) where
-  pub pieces_kept : w.count < most_verbs → (v : Verb) {g : Segment} → g ≡ candidate_of v
-      → Holds (Pieces (set pieces w.count (record { segment = g }))) (contour_step_of s.contour v)
-  pieces_kept fits v adds = rw (adds, count_is s) (pieces_after s.contour s.kept (rw (count_is s) at fits) v)
+module _ {segments : List Segment} {verbs : List ℕ} {positions : List Float} {w : Walk} {i at : ℕ}
+    (s : Walking (Pieces segments) verbs positions w i at) (v : Verb) {r : Option Walk}
+    (told : (k : Contour) → w ≡ walk_of k → r ≡ step_of (contour_step_of k v)) {next : Walk} (h : r ≡ Some next) where
+  pub piece_kept : {g : Segment} → g ≡ candidate_of v → w.count < next.count → Holds (Pieces (segments ++ (g ∷ []))) (contour_step_of s.contour v)
+  piece_kept e l =
+      rw e (adds_one s.contour s.kept s.stands (candidate_of v) (contour_step_of s.contour v) (sym h ∙ told s.contour s.stands) (adds_after s.contour v) l)
 
-  pub pieces_all : length verbs ≤ i → Stored (contour_of verbs positions) pieces
-  pieces_all done = rw (ended_at s done) s.kept
+  pub pieces_kept : next.count ≤ w.count → Holds (Pieces segments) (contour_step_of s.contour v)
+  pieces_kept l = adds_none s.contour s.kept s.stands (candidate_of v) (contour_step_of s.contour v) (sym h ∙ told s.contour s.stands) (adds_after s.contour v) l
+
+pub pieces_all : {segments : List Segment} {verbs : List ℕ} {positions : List Float} {w : Walk} {i at : ℕ}
+    → Walking (Pieces segments) verbs positions w i at → length verbs ≤ i → Stored (contour_of verbs positions) segments
+pieces_all s done = rw (ended_at s done) s.kept

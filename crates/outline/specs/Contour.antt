@@ -1,10 +1,10 @@
 -- shape.rs's `contour`: an outline's single contour as its start and its segments. Definitions only.
-use Rattle.std.specs.Prelude.{Bool, true, false, cond, not, ◌&&◌, ◌||◌, List, [], ◌∷◌, ◌++◌, ℕ, ◌+◌, Float}
+use Rattle.std.specs.Prelude.{Bool, true, false, cond, not, ◌&&◌, ◌||◌, List, [], ◌∷◌, ◌++◌, ℕ, ◌+◌, Float, Result, Ok, Err}
 use Rattle.std.specs.Float.Ieee.{eq}
 use Rattle.float.specs.Ops.{f0}
 use Rattle.geometry.specs.declared.Position.{Position}
-use Rattle.path.specs.declared.Unpacked.{Unpacked}
-use Rattle.path.specs.declared.Unpacked.TheVariants as unpacked
+use Rattle.fault.specs.declared.Fault.{Fault}
+use Rattle.path.specs.declared.PackedVerb.{PackedVerb}
 use Rattle.path.specs.declared.Verb.{Verb}
 use Rattle.path.specs.declared.Verb.TheVariants as verb
 use Rattle.path.specs.Verbs.{unpacked_of, from_packed_of}
@@ -72,9 +72,9 @@ contour_step_of k verb.Close = reached (record { started = k.started; start = k.
 
 -- the verb of a byte, its positions at place `at`; a byte that is no verb, which the fitter refuses before, ends the
 -- walk
-abbrev pub byte_step_of : Contour → Unpacked → List Float → ℕ → Walked
-byte_step_of k (unpacked.Verb p) positions at = contour_step_of k (from_packed_of p positions at)
-byte_step_of k (unpacked.Refused f) positions at = stopped
+abbrev pub byte_step_of : Contour → Result PackedVerb Fault → List Float → ℕ → Walked
+byte_step_of k (Ok p) positions at = contour_step_of k (from_packed_of p positions at)
+byte_step_of k (Err f) positions at = stopped
 
 -- the verbs in order
 unfoldable pub contour_from : Walked → List ℕ → List Float → ℕ → Walked

@@ -3,3 +3,4 @@
 pub mod Outline
 pub mod Contour
 pub mod Kept
+pub mod Checked

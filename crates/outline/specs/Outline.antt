@@ -1,31 +1,29 @@
 -- What the fitter refuses. Document 01: 'Outline: 11, then verbs in order (8 or 10 at the first verb at fault), 9,
 -- then 1 for positions'; document 02, change 5: 'Number 10 no longer occurs'. Definitions only.
-use Rattle.std.specs.Prelude.{Bool, true, ◌&&◌, List, [], ◌∷◌, ℕ, suc, ◌+◌, ◌*◌, leb, eqb, length, Float}
+use Rattle.std.specs.Prelude.{Bool, true, ◌&&◌, List, [], ◌∷◌, ℕ, suc, ◌+◌, ◌*◌, leb, eqb, length, Float, Result, Ok, Err}
+use Rattle.fault.specs.declared.Fault.{Fault}
 use Rattle.fault.specs.declared.Fault.TheVariants as fault
-use Rattle.fault.specs.declared.Check.{Check}
-use Rattle.fault.specs.declared.Check.TheVariants as check
-use Rattle.fault.specs.Check.{unless_of, ◌and_then◌}
-use Rattle.path.specs.declared.Unpacked.{Unpacked}
-use Rattle.path.specs.declared.Unpacked.TheVariants as unpacked
+use Rattle.fault.specs.Check.{Check, unless_of, ◌and_then◌}
+use Rattle.path.specs.declared.PackedVerb.{PackedVerb}
 use Rattle.path.specs.Verbs.{unpacked_of, num_coordinates_of}
 use Rattle.shape.specs.Checks.{in_range_of, numbers_check_of}
 
 -- 'a verb byte above 5' is number 8
-abbrev pub unpacked_check_of : Unpacked → Check
-unpacked_check_of (unpacked.Verb p) = check.Pass
-unpacked_check_of (unpacked.Refused f) = check.Refused f
+abbrev pub unpacked_check_of : Result PackedVerb Fault → Check
+unpacked_check_of (Ok p) = Ok tt
+unpacked_check_of (Err f) = Err f
 
 unfoldable pub verb_check_of : ℕ → Check
 verb_check_of byte = unpacked_check_of (unpacked_of byte)
 
 unfoldable pub verbs_check_of : List ℕ → Check
-verbs_check_of [] = check.Pass
+verbs_check_of [] = Ok tt
 verbs_check_of (byte ∷ bytes) = verb_check_of byte and_then verbs_check_of bytes
 
 -- how many floats a verb's positions take. 'A position is two floats'
-abbrev pub floats_by : Unpacked → ℕ
-floats_by (unpacked.Verb p) = 2 * num_coordinates_of p
-floats_by (unpacked.Refused f) = 0
+abbrev pub floats_by : Result PackedVerb Fault → ℕ
+floats_by (Ok p) = 2 * num_coordinates_of p
+floats_by (Err f) = 0
 
 unfoldable pub floats_of : ℕ → ℕ
 floats_of byte = floats_by (unpacked_of byte)

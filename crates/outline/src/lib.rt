@@ -7,9 +7,10 @@ ghost use Rattle.outline.specs.Outline.{verb_check_of, verbs_check_of, floats_of
 ghost use Rattle.outline.specs.Contour.{Contour, new_contour, same_place_of, draw_of, move_of, contour_step_of, contour_of};
 ghost use Rattle.outline.specs.Kept.{walk_of, walk_pushed_of, walk_closed_of, shut_of, step_of, candidate_of, Ended, Stored};
 
+use arrayvec::ArrayVec;
 use fault::{Check, Fault};
 use geometry::Position;
-use path::{PackedVerb, Unpacked, Verb};
+use path::{PackedVerb, Verb};
 
 // The most verbs of an outline; of segments: one for each verb but the MoveTo, and one that closes the
 // contour; and of points: the start, and each segment's end.
@@ -19,50 +20,49 @@ pub const MOST_SEGMENTS: usize = 256;
 
 pub const MOST_POINTS: usize = 257;
 
+pub const ORIGIN: Position = Position { x: 0.0, y: 0.0 };
+
 // A line's end, or a curve's three points.
-#[derive(Clone, Copy)]
+#[derive(Clone, Copy, Drop)]
 pub enum Segment {
     Line(f32, f32),
     Cubic(f32, f32, f32, f32, f32, f32),
 }
 
-// A segment as an array holds it.
-#[derive(Clone, Copy)]
-pub struct Piece {
-    pub segment: Segment,
+// What a place of a list holds that has no segment yet.
+impl Default for Segment {
+    fn default() -> Self {
+        Segment::Line(0.0, 0.0)
+    }
 }
 
 // ---- refusals
 
 // The check of one verb: 8 for a byte that is none.
+#[tactic(auto, unfolding(crate::specs::Outline::verb_check_of))]
 fn verb_check(byte: u8) -> Check
     ensures { result ≡ verb_check_of byte }
 {
-    match PackedVerb::from_byte(byte) {
-        Unpacked::Verb(_) => Check::Pass,
-        Unpacked::Refused(fault) => Check::Refused(fault),
-    }
+    PackedVerb::try_from(byte)?;
+    Ok(())
 }
 
 // The first verb at fault.
 fn verbs_check(verbs: &[u8]) -> Check
     ensures { result ≡ verbs_check_of verbs.now }
 {
-    let mut i: usize = 0;
-    while i < verbs.len() {
-        if let Check::Refused(fault) = verb_check(verbs[i]) {
-            return Check::Refused(fault);
-        }
-        i += 1;
+    for byte in verbs {
+        verb_check(*byte)?;
     }
-    Check::Pass
+    Ok(())
 }
 
 // How many floats a verb's positions take.
+#[tactic(auto, unfolding(crate::specs::Outline::floats_of))]
 fn floats(byte: u8) -> usize
     ensures { result ≡ floats_of byte }
 {
-    let Unpacked::Verb(packed) = PackedVerb::from_byte(byte) else {
+    let Ok(packed) = PackedVerb::try_from(byte) else {
         return 0;
     };
     2 * packed.num_coordinates()
@@ -74,10 +74,8 @@ fn floats_needed(verbs: &[u8]) -> usize
     ensures { result ≡ floats_needed_of verbs.now }
 {
     let mut sum: usize = 0;
-    let mut i: usize = 0;
-    while i < verbs.len() {
-        sum += floats(verbs[i]);
-        i += 1;
+    for byte in verbs {
+        sum += floats(*byte);
     }
     sum
 }
@@ -85,39 +83,53 @@ fn floats_needed(verbs: &[u8]) -> usize
 fn all_in_range(positions: &[f32]) -> bool
     ensures { result ≡ all_in_range_of positions.now }
 {
-    let mut i: usize = 0;
-    while i < positions.len() {
-        if shape::number_in_range(positions[i]) {
-            i += 1;
-        } else {
-            return false;
-        }
-    }
-    true
+    positions.iter().all(|x| shape::number_in_range(*x))
 }
 
+#[tactic(auto, unfolding(crate::specs::Outline::outline_check_of))]
 pub fn outline_check(verbs: &[u8], positions: &[f32]) -> Check
     ensures { result ≡ outline_check_of verbs.now positions.now }
 {
     if verbs.len() > MOST_VERBS {
-        return Check::Refused(Fault::TooManyVerbs);
+        return Err(Fault::TooManyVerbs);
     }
-    if let Check::Refused(fault) = verbs_check(verbs) {
-        return Check::Refused(fault);
-    }
-    let needed = floats_needed(verbs);
-    if needed != positions.len() {
-        return Check::Refused(Fault::PositionsMismatch);
+    verbs_check(verbs)?;
+    if floats_needed(verbs) != positions.len() {
+        return Err(Fault::PositionsMismatch);
     }
     shape::numbers_check(all_in_range(positions))
 }
 
+// ---- an outline without fault
+
+// The verbs of an outline and the floats of their positions, as many as the verbs take.
+#[derive(Clone, Copy)]
+pub struct Outline<'a> {
+    pub verbs: &'a [u8],
+    pub positions: &'a [f32],
+    ghost few: { length verbs.now ≤ most_verbs },
+    ghost fits: { floats_needed_of verbs.now ≡ length positions.now },
+}
+
+impl<'a> Outline<'a> {
+    ghost use Rattle.outline.specs.Checked.{Checked};
+
+    // The outline, or what is refused of it.
+    pub fn checked(verbs: &'a [u8], positions: &'a [f32]) -> Result<Self, Fault>
+        ensures { Checked (outline_check_of verbs.now positions.now) verbs.now positions.now result }
+    {
+        outline_check(verbs, positions)?;
+        Ok(Outline { verbs, positions })
+    }
+}
+
 // ---- the contour
 
+#[tactic(auto, unfolding(crate::specs::Contour::same_place_of))]
 pub fn same_place(p: Position, q: Position) -> bool
     ensures { result ≡ same_place_of p q }
 {
-    p.x == q.x && p.y == q.y
+    p == q
 }
 
 // What is kept of a contour: its start and last position, how many segments it has, and whether all
@@ -127,20 +139,13 @@ pub struct Walk {
     pub started: bool,
     pub closed: bool,
     pub straight: bool,
-    pub sx: f32,
-    pub sy: f32,
-    pub lx: f32,
-    pub ly: f32,
+    pub start: Position,
+    pub last: Position,
     pub count: usize,
 }
 
-#[derive(Clone, Copy)]
-pub enum Step {
-    Go(Walk),
-    Stop,
-}
-
 impl Walk {
+    #[tactic(auto, unfolding(crate::specs::Kept::walk_of))]
     fn new() -> Self
         ensures { result ≡ walk_of new_contour }
     {
@@ -148,53 +153,44 @@ impl Walk {
             started: false,
             closed: false,
             straight: true,
-            sx: 0.0,
-            sy: 0.0,
-            lx: 0.0,
-            ly: 0.0,
+            start: ORIGIN,
+            last: ORIGIN,
             count: 0,
         }
     }
 
     // The walk with one segment more.
-    fn pushed(self, x: f32, y: f32, straight: bool) -> Self
+    #[tactic(auto, unfolding(crate::specs::Kept::walk_pushed_of))]
+    fn pushed(self, last: Position, straight: bool) -> Self
         requires { self.count < most_points }
-        ensures { result ≡ walk_pushed_of self x y straight }
+        ensures { result ≡ walk_pushed_of self last straight }
     {
-        let count = self.count;
         Self {
-            started: self.started,
-            closed: self.closed,
             straight,
-            sx: self.sx,
-            sy: self.sy,
-            lx: x,
-            ly: y,
-            count: count + 1,
+            last,
+            count: self.count + 1,
+            ..self
         }
     }
 
     // A MoveTo before any segment starts the contour; after one there is a second contour, and no box.
-    fn move_to(self, x: f32, y: f32) -> Step
-        ensures { (k : Contour) → self ≡ walk_of k → result ≡ step_of (move_of k (record { x = x; y = y })) }
+    #[tactic(auto, using(crate::proofs::Walking::move_first, crate::proofs::Walking::move_second))]
+    fn move_to(self, p: Position) -> Option<Self>
+        ensures { (k : Contour) → self ≡ walk_of k → result ≡ step_of (move_of k p) }
     {
-        let count = self.count;
-        if count == 0 {
-            return Step::Go(Walk {
-                started: true,
-                closed: self.closed,
-                straight: self.straight,
-                sx: x,
-                sy: y,
-                lx: x,
-                ly: y,
-                count,
-            });
+        if self.count != 0 {
+            return None;
         }
-        Step::Stop
+        Some(Self {
+            started: true,
+            start: p,
+            last: p,
+            ..self
+        })
     }
 
     // Whether no segment may come now.
+    #[tactic(auto, unfolding(crate::specs::Kept::shut_of))]
     fn shut(self) -> bool
         ensures { result ≡ shut_of self }
     {
@@ -202,95 +198,71 @@ impl Walk {
     }
 
     // A segment after the walk so far. A line to the last position adds none.
-    fn draw(self, segment: Segment) -> Step
+    #[tactic(auto, using(crate::proofs::Walking::draw_shut, crate::proofs::Walking::draw_same))]
+    fn draw(self, segment: Segment) -> Option<Self>
         requires { self.count < most_points }
         ensures { (k : Contour) → self ≡ walk_of k → result ≡ step_of (draw_of k segment) }
     {
         if self.shut() {
-            return Step::Stop;
+            return None;
         }
         match segment {
             Segment::Line(x, y) => {
                 let end = Position { x, y };
-                let last = Position {
-                    x: self.lx,
-                    y: self.ly,
-                };
-                if same_place(end, last) {
-                    return Step::Go(self);
+                if same_place(end, self.last) {
+                    return Some(self);
                 }
-                Step::Go(self.pushed(x, y, self.straight))
+                Some(self.pushed(end, self.straight))
             }
-            Segment::Cubic(_, _, _, _, x, y) => Step::Go(self.pushed(x, y, false)),
+            Segment::Cubic(_, _, _, _, x, y) => Some(self.pushed(Position { x, y }, false)),
         }
     }
 
+    #[tactic(auto, unfolding(crate::specs::Kept::walk_closed_of))]
     fn close(self) -> Self
         ensures { result ≡ walk_closed_of self }
     {
         Self {
-            started: self.started,
             closed: true,
-            straight: self.straight,
-            sx: self.sx,
-            sy: self.sy,
-            lx: self.lx,
-            ly: self.ly,
-            count: self.count,
+            ..self
         }
     }
 
     // The walk after one verb more.
-    fn step(self, verb: Verb) -> Step
+    #[tactic(auto, unfolding(crate::specs::Kept::walk_of, crate::specs::Kept::walk_closed_of))]
+    fn step(self, verb: Verb) -> Option<Self>
         requires { self.count < most_points }
         ensures { (k : Contour) → self ≡ walk_of k → result ≡ step_of (contour_step_of k verb) }
     {
         match verb {
-            Verb::MoveTo(x, y) => self.move_to(x, y),
+            Verb::MoveTo(x, y) => self.move_to(Position { x, y }),
             Verb::LineTo(x, y) => self.draw(Segment::Line(x, y)),
             Verb::BezierTo(a, b, c, d, x, y) => self.draw(Segment::Cubic(a, b, c, d, x, y)),
-            Verb::Solid => Step::Go(self),
-            Verb::Hole => Step::Go(self),
-            Verb::Close => Step::Go(self.close()),
+            Verb::Solid | Verb::Hole => Some(self),
+            Verb::Close => Some(self.close()),
         }
     }
 }
 
-// The walk over all verbs. The start and the ends of the segments go to xs and ys.
-pub fn contour(
-    verbs: &[u8],
-    positions: &[f32],
-    xs: &mut [f32; MOST_POINTS],
-    ys: &mut [f32; MOST_POINTS],
-) -> Step
-    requires verbs_len_bound { length verbs.now ≤ most_verbs }
-    requires verbs_value { floats_needed_of verbs.now ≡ length positions.now }
-    requires xs_len { (length xs.old ≡ most_points) × (length ys.old ≡ most_points) }
-    ensures { Ended (contour_of verbs.now positions.now) result xs.new ys.new }
+// The walk over all verbs. The start and the ends of the segments go to `points`.
+pub fn contour(outline: Outline, points: &mut [Position; MOST_POINTS]) -> Option<Walk>
+    ensures { Ended (contour_of outline.entry.verbs.now outline.entry.positions.now) result points.new }
 {
     let mut walk = Walk::new();
-    let mut i: usize = 0;
     let mut at: usize = 0;
-    while i < verbs.len() {
-        let n = walk.count;
-        xs[n] = walk.lx;
-        ys[n] = walk.ly;
-        let byte = verbs[i];
-        let Unpacked::Verb(packed) = PackedVerb::from_byte(byte) else {
-            return Step::Stop;
+    for byte in outline.verbs {
+        points[walk.count] = walk.last;
+        let Ok(packed) = PackedVerb::try_from(*byte) else {
+            return None;
         };
-        let verb = Verb::from_packed(packed, positions, at);
-        let Step::Go(next) = walk.step(verb) else {
-            return Step::Stop;
+        let Some(next) = walk.step(Verb::from_packed(packed, outline.positions, at)) else {
+            return None;
         };
         walk = next;
-        at += floats(byte);
-        i += 1;
+        at += 2 * packed.num_coordinates();
     }
-    let n = walk.count;
-    xs[n] = walk.lx;
-    ys[n] = walk.ly;
-    Step::Go(walk)
+    points[walk.count] = walk.last;
+    Some(walk)
 }
 
 // ---- the segments
@@ -300,50 +272,32 @@ fn candidate(verb: Verb) -> Segment
     ensures { result ≡ candidate_of verb }
 {
     match verb {
-        Verb::MoveTo(x, y) => Segment::Line(x, y),
-        Verb::LineTo(x, y) => Segment::Line(x, y),
+        Verb::MoveTo(x, y) | Verb::LineTo(x, y) => Segment::Line(x, y),
         Verb::BezierTo(a, b, c, d, x, y) => Segment::Cubic(a, b, c, d, x, y),
-        Verb::Solid => Segment::Line(0.0, 0.0),
-        Verb::Hole => Segment::Line(0.0, 0.0),
-        Verb::Close => Segment::Line(0.0, 0.0),
+        Verb::Solid | Verb::Hole | Verb::Close => Segment::Line(0.0, 0.0),
     }
 }
 
-// The segments of a contour.
-#[derive(Clone, Copy)]
-pub struct SegmentList {
-    pub pieces: [Piece; MOST_SEGMENTS],
-}
-
-// The segments that the walk over all verbs adds: the same walk once more, for an outline with curves. A
-// segment is stored before it is known whether the verb adds it; where it does not, the next is stored
-// over it.
-pub fn segments(verbs: &[u8], positions: &[f32]) -> SegmentList
-    requires verbs_len_bound { length verbs.now ≤ most_verbs }
-    requires verbs_value { floats_needed_of verbs.now ≡ length positions.now }
-    ensures { Stored (contour_of verbs.now positions.now) result.pieces }
+// The segments that the walk over all verbs adds: the same walk once more, for an outline with curves.
+pub fn segments(outline: Outline) -> ArrayVec<Segment, MOST_SEGMENTS>
+    ensures { Stored (contour_of outline.entry.verbs.now outline.entry.positions.now) result.items }
 {
-    let mut pieces = [Piece {
-        segment: Segment::Line(0.0, 0.0),
-    }; MOST_SEGMENTS];
+    let mut segments = ArrayVec::new();
     let mut walk = Walk::new();
-    let mut i: usize = 0;
     let mut at: usize = 0;
-    while i < verbs.len() {
-        let n = walk.count;
-        let byte = verbs[i];
-        let Unpacked::Verb(packed) = PackedVerb::from_byte(byte) else {
-            return SegmentList { pieces };
+    for byte in outline.verbs {
+        let Ok(packed) = PackedVerb::try_from(*byte) else {
+            return segments;
         };
-        let verb = Verb::from_packed(packed, positions, at);
-        let segment = candidate(verb);
-        pieces[n] = Piece { segment };
-        let Step::Go(next) = walk.step(verb) else {
-            return SegmentList { pieces };
+        let verb = Verb::from_packed(packed, outline.positions, at);
+        let Some(next) = walk.step(verb) else {
+            return segments;
         };
+        if next.count > walk.count {
+            segments.push(candidate(verb));
+        }
         walk = next;
-        at += floats(byte);
-        i += 1;
+        at += 2 * packed.num_coordinates();
     }
-    SegmentList { pieces }
+    segments
 }

@@ -8,18 +8,21 @@ ghost use Rattle.std.specs.Prelude.{◌≡◌};
 ghost use Rattle.boundary.specs.Answers.{after, box_handed, outline_handed, cut_handed};
 ghost use Rattle.outline_exports.specs.Calls.{fit_lent, fit_outline_lent, fit_with_cut_lent};
 
+use boundary::HandOver;
+use fault::Fault;
 use lent_floats::{BOX, CUT_OUTLINE, OUTLINE};
 
-const TOO_SHORT: u8 = 4;
+// Fewer are lent than the call takes.
+const TOO_SHORT: Fault = Fault::BufferTooShort;
 
 pub fn fit(verbs: &[u8], positions: &[f32], out: &mut [f32]) -> u8
     ensures value { result ≡ (box_handed (fit_lent verbs.now positions.now out.old)).number }
     ensures out_after { out.new ≡ after (box_handed (fit_lent verbs.now positions.now out.old)) out.old }
 {
     if out.len() < BOX {
-        return TOO_SHORT;
+        return TOO_SHORT.number();
     }
-    boundary::hand_box(fit::fit(verbs, positions), out)
+    fit::fit(verbs, positions).hand_over(out)
 }
 
 pub fn fit_outline(verbs: &[u8], positions: &[f32], out: &mut [f32]) -> u8
@@ -27,9 +30,9 @@ pub fn fit_outline(verbs: &[u8], positions: &[f32], out: &mut [f32]) -> u8
     ensures out_after { out.new ≡ after (outline_handed (fit_outline_lent verbs.now positions.now out.old)) out.old }
 {
     if out.len() < OUTLINE {
-        return TOO_SHORT;
+        return TOO_SHORT.number();
     }
-    boundary::hand_outline(fit::fit_outline(verbs, positions), out)
+    fit::fit_outline(verbs, positions).hand_over(out)
 }
 
 // A whole outline takes 11 of the floats: 21 are asked for all the same, before it is known.
@@ -38,7 +41,7 @@ pub fn fit_with_cut(verbs: &[u8], positions: &[f32], out: &mut [f32]) -> u8
     ensures out_after { out.new ≡ after (cut_handed (fit_with_cut_lent verbs.now positions.now out.old)) out.old }
 {
     if out.len() < CUT_OUTLINE {
-        return TOO_SHORT;
+        return TOO_SHORT.number();
     }
-    boundary::hand_cut(fit::fit_with_cut(verbs, positions), out)
+    fit::fit_with_cut(verbs, positions).hand_over(out)
 }

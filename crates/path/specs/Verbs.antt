@@ -1,23 +1,26 @@
 -- The verbs of an outline, as path.rs and document 01 ('The boxes') have them. Definitions only.
-use Rattle.std.specs.Prelude.{cond, List, ℕ, ◌+◌, eqb, get_or, Float}
+use Rattle.std.specs.Prelude.{◌≡◌, cond, Result, Ok, Err, List, ℕ, ◌+◌, eqb, get_or, Float}
 use Rattle.std.specs.Float.{nan}
+use Rattle.fault.specs.declared.Fault.{Fault}
 use Rattle.fault.specs.declared.Fault.TheVariants as fault
 use Rattle.path.specs.declared.PackedVerb.{PackedVerb}
 use Rattle.path.specs.declared.PackedVerb.TheVariants as packed
-use Rattle.path.specs.declared.Unpacked.{Unpacked}
-use Rattle.path.specs.declared.Unpacked.TheVariants as unpacked
 use Rattle.path.specs.declared.Verb.{Verb}
 use Rattle.path.specs.declared.Verb.TheVariants as verb
 
 -- Document 01: 'verb bytes (`PackedVerb` in path.rs: MoveTo 0 to Close 5)'; 'a verb byte above 5' is number 8
-unfoldable pub unpacked_of : ℕ → Unpacked
+unfoldable pub unpacked_of : ℕ → Result PackedVerb Fault
 unpacked_of byte =
-    cond (eqb byte 0) (unpacked.Verb packed.MoveTo)
-    (cond (eqb byte 1) (unpacked.Verb packed.LineTo)
-    (cond (eqb byte 2) (unpacked.Verb packed.BezierTo)
-    (cond (eqb byte 3) (unpacked.Verb packed.Solid)
-    (cond (eqb byte 4) (unpacked.Verb packed.Hole)
-    (cond (eqb byte 5) (unpacked.Verb packed.Close) (unpacked.Refused fault.UnknownVerb))))))
+    cond (eqb byte 0) (Ok packed.MoveTo)
+    (cond (eqb byte 1) (Ok packed.LineTo)
+    (cond (eqb byte 2) (Ok packed.BezierTo)
+    (cond (eqb byte 3) (Ok packed.Solid)
+    (cond (eqb byte 4) (Ok packed.Hole)
+    (cond (eqb byte 5) (Ok packed.Close) (Err fault.UnknownVerb))))))
+
+-- what a byte is taken for
+abbrev pub Unpacks : ℕ → Result PackedVerb Fault → Type 0
+Unpacks byte result = result ≡ unpacked_of byte
 
 -- Verb::num_coordinates. Document 01: 'one for MoveTo and LineTo, three for BezierTo, else none'
 abbrev pub num_coordinates_of : PackedVerb → ℕ

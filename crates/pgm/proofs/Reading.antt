@@ -10,7 +10,8 @@ use lib.ListN.{length, drop}
 use borrow.Author.Tests.{eqb-true, eqb-false, eq-eqb, ne_eqb}
 use Rattle.fault.specs.declared.Fault.{Fault}
 use Rattle.fault.specs.declared.Fault.TheVariants.{MaskTooLarge, BufferTooShort, NotPgm, WrongDepth, WrongRaster}
-use Rattle.fault.specs.declared.Check.TheVariants as check
+use Rattle.fault.specs.Check.{Check}
+use Rattle.std.specs.Prelude.{Result, Ok, Err}
 use Rattle.fault.proofs.Decided.{Decided}
 use Rattle.cells.specs.declared.Size.{Size}
 use Rattle.cells.specs.declared.MaskRecord.{MaskRecord}
@@ -24,7 +25,6 @@ use Rattle.pgm_reader.specs.Laws.{HeaderIs}
 use Rattle.pgm_reader.proofs.Laws.{header_exactly_when}
 use Rattle.pgm.specs.Calls.{read_check, record_read, read_call, raster_in, mask_after_reading}
 use Rattle.pgm.specs.Laws.{Taken, FirstReadCause, no_header, wrong_depth, too_large_law, wrong_raster, lent_short_law, ReadExactlyWhen}
-use Rattle.pgm.specs.declared.ReadAnswer.TheVariants as read
 
 -- ---- a file that is taken
 
@@ -32,10 +32,10 @@ module _ {file : List ℕ} {size : Size} {raster : List ℕ} (t : Taken file siz
   is : read_header file ≡ ok (record { size = size; depth = 255 }) raster
   is = header_exactly_when.always file size 255 raster t.header
 
-  pub done : (lent : Lent) → LentEnough size lent → read_call file lent ≡ read.Read (record_read size)
+  pub done : (lent : Lent) → LentEnough size lent → read_call file lent ≡ Ok (record_read size)
   done lent h = rw (is, allowed_small size t.size_allowed, eq-eqb (length raster) (cells_of size) t.exactly, enough_test size lent h) refl
 
-  pub cells_read : (mask : List ℕ) → mask_after_reading (read.Read (record_read size)) file mask ≡ raster ++ drop (cells_of size) mask
+  pub cells_read : (mask : List ℕ) → mask_after_reading (Ok (record_read size)) file mask ≡ raster ++ drop (cells_of size) mask
   cells_read mask = ap (λ (r : Read Head). raster_in r ++ drop (cells_of size) mask) is
 
 -- ---- and one that is refused
@@ -47,7 +47,7 @@ no_head file n = go (read_header file) refl
     go bad q = refl
     go (ok h rest) q = absurd (n h.size h.depth rest (header_exactly_when.only file h rest q))
 
-always : (file : List ℕ) (lent : Lent) (f : Fault) → FirstReadCause file lent f → read_call file lent ≡ read.Refused f
+always : (file : List ℕ) (lent : Lent) (f : Fault) → FirstReadCause file lent f → read_call file lent ≡ Err f
 always file lent f (no_header n) = rw (no_head file n) refl
 always file lent f (wrong_depth size depth raster h n) =
     rw (header_exactly_when.always file size depth raster h, ne_eqb depth 255 n) refl
@@ -107,12 +107,12 @@ pub record RasterFits (size : Size) (raster : ℕ) (lent : Lent) : Type 0 where
   pub exactly : raster ≡ cells_of size
   pub room : LentEnough size lent
 
-pub raster_fits : (h : Head) (raster : ℕ) (lent : Lent) → read_check h raster lent ≡ check.Pass → RasterFits h.size raster lent
+pub raster_fits : (h : Head) (raster : ℕ) (lent : Lent) → read_check h raster lent ≡ Ok tt → RasterFits h.size raster lent
 raster_fits h raster lent = go (eqb h.depth 255) (too_large h.size) (eqb raster (cells_of h.size)) (lent_short h.size lent) refl refl refl
   where
     go : (a b c d : Bool) → too_large h.size ≡ b → eqb raster (cells_of h.size) ≡ c → lent_short h.size lent ≡ d
-        → cond (not a) (check.Refused WrongDepth) (cond b (check.Refused MaskTooLarge) (cond (not c) (check.Refused WrongRaster)
-        (cond d (check.Refused BufferTooShort) check.Pass))) ≡ check.Pass
+        → ◌≡◌ {A = Check} (cond (not a) (Err WrongDepth) (cond b (Err MaskTooLarge) (cond (not c) (Err WrongRaster)
+        (cond d (Err BufferTooShort) (Ok tt))))) (Ok tt)
         → RasterFits h.size raster lent
     go false b c d e f g p = let z : ◌≡◌ {A = ℕ} 0 1 = cc in absurd (omega arith)
     go true true c d e f g p = let z : ◌≡◌ {A = ℕ} 0 1 = cc in absurd (omega arith)
@@ -126,10 +126,10 @@ raster_fits h raster lent = go (eqb h.depth 255) (too_large h.size) (eqb raster 
 
 -- ---- the answer
 
-not_both : (r : MaskRecord) (f : Fault) → read.Read r ≡ read.Refused f → ⊥
+not_both : (r : MaskRecord) (f : Fault) → ◌≡◌ {A = Result MaskRecord Fault} (Ok r) (Err f) → ⊥
 not_both r f e = let z : ◌≡◌ {A = ℕ} 0 1 = cc in omega arith
 
-done_only : (file : List ℕ) (r : MaskRecord) (lent : Lent) → read_call file lent ≡ read.Read r
+done_only : (file : List ℕ) (r : MaskRecord) (lent : Lent) → read_call file lent ≡ Ok r
     → (raster : List ℕ) × (Taken file r.size raster × (LentEnough r.size lent × (r.corner ≡ sheet_origin)))
 done_only file r lent e = go (decided file lent)
   where
@@ -139,17 +139,18 @@ done_only file r lent e = go (decided file lent)
     go : Decided (CanRead file lent) (FirstReadCause file lent) → (raster : List ℕ) × Shown r raster
     go (inl c) =
         let d = done c.taken lent c.room in
+        let z : ◌≡◌ {A = Result MaskRecord Fault} (Ok (record_read c.size)) (Ok r) = sym d ∙ e in
         let s : record_read c.size ≡ r = cc in
         (c.raster, subst (λ (x : MaskRecord). Shown x c.raster) s (c.taken, (c.room, refl)))
     go (inr (f, c)) = absurd (not_both r f (sym e ∙ always file lent f c))
 
-only : (file : List ℕ) (lent : Lent) (f : Fault) → read_call file lent ≡ read.Refused f → FirstReadCause file lent f
+only : (file : List ℕ) (lent : Lent) (f : Fault) → read_call file lent ≡ Err f → FirstReadCause file lent f
 only file lent f e = go (decided file lent)
   where
     go : Decided (CanRead file lent) (FirstReadCause file lent) → FirstReadCause file lent f
     go (inl c) = absurd (not_both (record_read c.size) f (sym (done c.taken lent c.room) ∙ e))
     go (inr (g, c)) =
-        let a = always file lent g c in
+        let z : ◌≡◌ {A = Result MaskRecord Fault} (Err g) (Err f) = sym (always file lent g c) ∙ e in
         let s : g ≡ f = cc in
         subst (FirstReadCause file lent) s c
 

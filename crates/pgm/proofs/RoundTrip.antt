@@ -14,7 +14,7 @@ use Rattle.pgm_reader.specs.Laws.{All, Spaces, Digits, FieldIs, HeaderIs}
 use Rattle.pgm_writer.specs.Text.{HasCells, blank, closing, decimal, header_text, pgm_of}
 use Rattle.pgm.specs.Calls.{record_read, read_call, mask_after_reading}
 use Rattle.pgm.specs.Laws.{Taken, RoundTrip}
-use Rattle.pgm.specs.declared.ReadAnswer.TheVariants as read
+use Rattle.std.specs.Prelude.{Ok}
 use Rattle.pgm.proofs.Writing.{written_exactly_when}
 use Rattle.pgm.proofs.Reading.{done, cells_read}
 use Rattle.pgm.proofs.Decimal.{decimals}
@@ -93,5 +93,5 @@ round_trip size mask file other ink n e fits =
     let front : take n (pgm_of size cells ++ drop n file) ≡ pgm_of size cells = take_at (pgm_of size cells) (drop n file) n k in
     let taken = written_taken size cells can.has_cells can.size_allowed l in (
       ap (λ (x : List ℕ). read_call x (lent other ink)) front ∙ done taken (lent other ink) fits,
-      ap (λ (x : List ℕ). mask_after_reading (read.Read (record_read size)) x other) front ∙ cells_read taken other,
+      ap (λ (x : List ℕ). mask_after_reading (Ok (record_read size)) x other) front ∙ cells_read taken other,
     )

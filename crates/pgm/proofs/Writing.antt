@@ -8,7 +8,7 @@ use lib.Dec.{ltb, eqb}
 use borrow.Author.Tests.{ltb-true, ltb-false, lt-ltb, le-ltb, eqb-true, eqb-false, eq-eqb, ne_eqb}
 use Rattle.fault.specs.declared.Fault.{Fault}
 use Rattle.fault.specs.declared.Fault.TheVariants.{MaskTooLarge, BufferTooShort, NotPgm}
-use Rattle.fault.specs.declared.Check.TheVariants as check
+use Rattle.std.specs.Prelude.{Result, Ok, Err}
 use Rattle.fault.proofs.Decided.{Decided, told, good}
 use Rattle.cells.specs.declared.Size.{Size}
 use Rattle.cells.specs.Cells.{cells_of, too_large}
@@ -17,7 +17,6 @@ use Rattle.pgm_writer.specs.Text.{HasCells}
 use Rattle.pgm_writer.proofs.Texts.{decimal_short, header_length}
 use Rattle.pgm.specs.Calls.{no_cells, file_length, write_check, write_call}
 use Rattle.pgm.specs.Laws.{CanWrite, FirstWriteCause, no_cells_law, too_large_law, either_short, WrittenExactlyWhen, FileLengths}
-use Rattle.pgm.specs.declared.WriteAnswer.TheVariants as write
 
 -- ---- a size that has cells
 
@@ -53,7 +52,7 @@ either a b c d (inl h) = rw (lt-ltb a b h) refl
 either a b c d (inr h) = rw (lt-ltb c d h) (or_true (ltb a b))
 
 module _ (size : Size) (mask file : ℕ) where
-  pub can_write : CanWrite size mask file → write_check size mask file ≡ check.Pass
+  pub can_write : CanWrite size mask file → write_check size mask file ≡ Ok tt
   can_write c =
       rw (
         some_cells size c.has_cells,
@@ -62,7 +61,7 @@ module _ (size : Size) (mask file : ℕ) where
         le-ltb file (file_length size) c.room,
       ) refl
 
-  pub cannot_write : (f : Fault) → FirstWriteCause size mask file f → write_check size mask file ≡ check.Refused f
+  pub cannot_write : (f : Fault) → FirstWriteCause size mask file f → write_check size mask file ≡ Err f
   cannot_write f (no_cells_law e) = rw (none size e) refl
   cannot_write f (too_large_law h l) = rw (some_cells size h, large_test size l) refl
   cannot_write f (either_short h s e) =
@@ -88,7 +87,7 @@ module _ (size : Size) (mask file : ℕ) where
       })
 
 -- where the check passes
-pub write_passes : (size : Size) (mask file : ℕ) → write_check size mask file ≡ check.Pass → CanWrite size mask file
+pub write_passes : (size : Size) (mask file : ℕ) → write_check size mask file ≡ Ok tt → CanWrite size mask file
 write_passes size mask file e = go (write_decided size mask file)
   where
     go : Decided (CanWrite size mask file) (FirstWriteCause size mask file) → CanWrite size mask file
@@ -97,27 +96,21 @@ write_passes size mask file e = go (write_decided size mask file)
 
 -- ---- the answer
 
-same : (f g : Fault) → write.Refused f ≡ write.Refused g → f ≡ g
-same f g e = cc
-
-written : (n : ℕ) (f : Fault) → write.Written n ≡ write.Refused f → ⊥
-written n f e = let z : ◌≡◌ {A = ℕ} 0 1 = cc in omega arith
-
-pub done : (size : Size) (mask file : ℕ) → CanWrite size mask file → write_call size mask file ≡ write.Written (file_length size)
+pub done : (size : Size) (mask file : ℕ) → CanWrite size mask file → write_call size mask file ≡ Ok (file_length size)
 done size mask file c = rw (can_write size mask file c) refl
 
-done_only : (size : Size) (mask file n : ℕ) → write_call size mask file ≡ write.Written n → CanWrite size mask file × (n ≡ file_length size)
+done_only : (size : Size) (mask file n : ℕ) → write_call size mask file ≡ Ok n → CanWrite size mask file × (n ≡ file_length size)
 done_only size mask file n e =
-    let can = good same (written (file_length size)) (can_write size mask file) (cannot_write size mask file) (write_decided size mask file)
-    (λ f q. written n f (sym e ∙ q)) in
-    let d = done size mask file can in
+    let can = good (file_length size) (can_write size mask file) (cannot_write size mask file) (write_decided size mask file)
+    (λ f q. let z : ◌≡◌ {A = Result ℕ Fault} (Ok n) (Err f) = sym e ∙ q in let one : ◌≡◌ {A = ℕ} 0 1 = cc in omega arith) in
+    let d : ◌≡◌ {A = Result ℕ Fault} (Ok n) (Ok (file_length size)) = sym e ∙ done size mask file can in
     (can, cc)
 
 pub written_exactly_when : WrittenExactlyWhen
 written_exactly_when = record {
   done_only = done_only;
   done_always = done;
-  refused = λ size mask file. told same (written (file_length size)) (can_write size mask file) (cannot_write size mask file) (write_decided size mask file);
+  refused = λ size mask file. told (file_length size) (can_write size mask file) (cannot_write size mask file) (write_decided size mask file);
 }
 
 -- ---- the file's length

@@ -1,10 +1,9 @@
 -- The calls on PGM files, outright: what each answers, and all that was lent to it afterwards (document 02, change 4,
 -- 'Masks as PGM files', and changes 8 and 9). Definitions only.
-use Rattle.std.specs.Prelude.{ℕ, ◌+◌, Bool, cond, not, ◌||◌, List, [], ◌++◌, ltb, eqb, length, take, drop}
+use Rattle.std.specs.Prelude.{ℕ, ◌+◌, Bool, cond, not, ◌||◌, List, [], ◌++◌, ltb, eqb, length, take, drop, Result, Ok, Err}
 use Rattle.fault.specs.declared.Fault.TheVariants.{MaskTooLarge, BufferTooShort, NotPgm, WrongDepth, WrongRaster}
-use Rattle.fault.specs.declared.Check.{Check}
-use Rattle.fault.specs.declared.Check.TheVariants as check
-use Rattle.fault.specs.Check.{answer_unless}
+use Rattle.fault.specs.declared.Fault.{Fault}
+use Rattle.fault.specs.Check.{Check, answer_unless}
 use Rattle.cells.specs.declared.Size.{Size}
 use Rattle.cells.specs.declared.MaskRecord.{MaskRecord}
 use Rattle.cells.specs.Cells.{cells_of, too_large}
@@ -13,10 +12,6 @@ use Rattle.ink.specs.Ink.{ink_after}
 use Rattle.ink.specs.Lent.{Lent, lent_short}
 use Rattle.pgm_reader.specs.Reading.{Read, ok, bad, Head, read_header}
 use Rattle.pgm_writer.specs.Text.{header_text, pgm_of}
-use Rattle.pgm.specs.declared.WriteAnswer.{WriteAnswer}
-use Rattle.pgm.specs.declared.WriteAnswer.TheVariants as write
-use Rattle.pgm.specs.declared.ReadAnswer.{ReadAnswer}
-use Rattle.pgm.specs.declared.ReadAnswer.TheVariants as read
 
 -- ---- writing
 
@@ -32,17 +27,17 @@ file_length size = length (header_text size) + cells_of size
 -- a mask and a file of so many bytes
 abbrev pub write_check : Size → ℕ → ℕ → Check
 write_check size mask file =
-    cond (no_cells size) (check.Refused NotPgm)
-    (cond (too_large size) (check.Refused MaskTooLarge)
-    (cond (ltb mask (cells_of size) || ltb file (file_length size)) (check.Refused BufferTooShort) check.Pass))
+    cond (no_cells size) (Err NotPgm)
+    (cond (too_large size) (Err MaskTooLarge)
+    (cond (ltb mask (cells_of size) || ltb file (file_length size)) (Err BufferTooShort) (Ok tt)))
 
-abbrev pub write_call : Size → ℕ → ℕ → WriteAnswer
-write_call size mask file = answer_unless write.Refused (write_check size mask file) (write.Written (file_length size))
+abbrev pub write_call : Size → ℕ → ℕ → Result ℕ Fault
+write_call size mask file = answer_unless (write_check size mask file) (file_length size)
 
 -- the file afterwards: the text and the cells, and 'changes no byte past it'. Turned away, it is left as it was
-abbrev pub file_after : WriteAnswer → Size → List ℕ → List ℕ → List ℕ
-file_after (write.Written n) size mask file = pgm_of size (take (cells_of size) mask) ++ drop n file
-file_after (write.Refused f) size mask file = file
+abbrev pub file_after : Result ℕ Fault → Size → List ℕ → List ℕ → List ℕ
+file_after (Ok n) size mask file = pgm_of size (take (cells_of size) mask) ++ drop n file
+file_after (Err f) size mask file = file
 
 -- ---- reading
 
@@ -50,24 +45,24 @@ file_after (write.Refused f) size mask file = file
 -- and for its ink 'with the mask' (change 9)
 abbrev pub read_check : Head → ℕ → Lent → Check
 read_check h raster lent =
-    cond (not (eqb h.depth 255)) (check.Refused WrongDepth)
-    (cond (too_large h.size) (check.Refused MaskTooLarge)
-    (cond (not (eqb raster (cells_of h.size))) (check.Refused WrongRaster)
-    (cond (lent_short h.size lent) (check.Refused BufferTooShort) check.Pass)))
+    cond (not (eqb h.depth 255)) (Err WrongDepth)
+    (cond (too_large h.size) (Err MaskTooLarge)
+    (cond (not (eqb raster (cells_of h.size))) (Err WrongRaster)
+    (cond (lent_short h.size lent) (Err BufferTooShort) (Ok tt))))
 
 -- 'A mask read from PGM stands at (0, 0).'
 abbrev pub record_read : Size → MaskRecord
 record_read size = record { size = size; corner = sheet_origin }
 
-abbrev pub raster_call : Head → ℕ → Lent → ReadAnswer
-raster_call h raster lent = answer_unless read.Refused (read_check h raster lent) (read.Read (record_read h.size))
+abbrev pub raster_call : Head → ℕ → Lent → Result MaskRecord Fault
+raster_call h raster lent = answer_unless (read_check h raster lent) (record_read h.size)
 
 -- number 13 where there is no header
-abbrev pub head_call : Read Head → Lent → ReadAnswer
-head_call bad lent = read.Refused NotPgm
+abbrev pub head_call : Read Head → Lent → Result MaskRecord Fault
+head_call bad lent = Err NotPgm
 head_call (ok h raster) lent = raster_call h (length raster) lent
 
-abbrev pub read_call : List ℕ → Lent → ReadAnswer
+abbrev pub read_call : List ℕ → Lent → Result MaskRecord Fault
 read_call file lent = head_call (read_header file) lent
 
 -- the bytes behind the header
@@ -76,15 +71,15 @@ raster_in (ok h raster) = raster
 raster_in bad = []
 
 -- the mask afterwards: the raster, then what was past it. Turned away, it is left as it was
-abbrev pub raster_over : ReadAnswer → List ℕ → List ℕ → List ℕ
-raster_over (read.Read r) raster mask = raster ++ drop (cells_of r.size) mask
-raster_over (read.Refused f) raster mask = mask
+abbrev pub raster_over : Result MaskRecord Fault → List ℕ → List ℕ → List ℕ
+raster_over (Ok r) raster mask = raster ++ drop (cells_of r.size) mask
+raster_over (Err f) raster mask = mask
 
-abbrev pub mask_after_reading : ReadAnswer → List ℕ → List ℕ → List ℕ
+abbrev pub mask_after_reading : Result MaskRecord Fault → List ℕ → List ℕ → List ℕ
 mask_after_reading r file mask = raster_over r (raster_in (read_header file)) mask
 
 -- the ink afterwards (change 9): 'After each done .. PGM reading it equals what a scan of the mask finds, no matter what it
 -- held before. After a turned-away call it is unaltered.' The mask is as the call leaves it
-abbrev pub ink_after_reading : ReadAnswer → List ℕ → List ℕ → List ℕ
-ink_after_reading (read.Read r) mask ink = ink_after r.size mask ink
-ink_after_reading (read.Refused f) mask ink = ink
+abbrev pub ink_after_reading : Result MaskRecord Fault → List ℕ → List ℕ → List ℕ
+ink_after_reading (Ok r) mask ink = ink_after r.size mask ink
+ink_after_reading (Err f) mask ink = ink

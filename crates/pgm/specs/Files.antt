@@ -1,16 +1,13 @@
 -- Files whose answers are worked out by hand from document 02's sentences, one for each corner of them. Proved by
 -- computing, in proofs/Files.antt.
-use Rattle.std.specs.Prelude.{ℕ, ◌≡◌, List, [], ◌∷◌, ◌++◌, pos, length}
+use Rattle.std.specs.Prelude.{ℕ, ◌≡◌, List, [], ◌∷◌, ◌++◌, pos, length, Result, Ok, Err}
 use Rattle.fault.specs.declared.Fault.{Fault}
 use Rattle.fault.specs.declared.Fault.TheVariants.{MaskTooLarge, BufferTooShort, NotPgm, WrongDepth, WrongRaster}
 use Rattle.cells.specs.declared.Size.{Size}
+use Rattle.cells.specs.declared.MaskRecord.{MaskRecord}
 use Rattle.ink.specs.Lent.{lent}
 use Rattle.pgm_writer.specs.Text.{header_text}
 use Rattle.pgm.specs.Calls.{write_call, file_after, read_call, mask_after_reading, ink_after_reading}
-use Rattle.pgm.specs.declared.WriteAnswer.{WriteAnswer}
-use Rattle.pgm.specs.declared.WriteAnswer.TheVariants as write
-use Rattle.pgm.specs.declared.ReadAnswer.{ReadAnswer}
-use Rattle.pgm.specs.declared.ReadAnswer.TheVariants as read
 
 -- ---- pieces, in ASCII
 
@@ -63,7 +60,7 @@ m9 = 9 ∷ []
 abbrev pub i66 : List ℕ
 i66 = 6 ∷ 6 ∷ []
 
-abbrev pub Reads : List ℕ → List ℕ → List ℕ → ReadAnswer → List ℕ → List ℕ → Type 0
+abbrev pub Reads : List ℕ → List ℕ → List ℕ → Result MaskRecord Fault → List ℕ → List ℕ → Type 0
 Reads file mask ink answer after inked =
     (read_call file (lent mask ink) ≡ answer) × ((mask_after_reading answer file mask ≡ after) × (ink_after_reading answer after ink ≡ inked))
 
@@ -71,8 +68,8 @@ abbrev pub by : ℕ → ℕ → Size
 by width height = record { width = width; height = height }
 
 -- read as 1 by 1, 'stands at (0, 0)'
-abbrev pub one_by_one : ReadAnswer
-one_by_one = read.Read (record { size = by 1 1; corner = record { x = pos 0; y = pos 0 } })
+abbrev pub one_by_one : Result MaskRecord Fault
+one_by_one = Ok (record { size = by 1 1; corner = record { x = pos 0; y = pos 0 } })
 
 -- of this cell, which has ink
 abbrev pub Cell : List ℕ → ℕ → Type 0
@@ -80,13 +77,13 @@ Cell file byte = Reads file m9 i66 one_by_one (byte ∷ []) (0 ∷ 1 ∷ [])
 
 -- refused: 'Left as it was: all lent'
 abbrev pub Refuses : List ℕ → List ℕ → List ℕ → Fault → Type 0
-Refuses file mask ink fault = Reads file mask ink (read.Refused fault) mask ink
+Refuses file mask ink fault = Reads file mask ink (Err fault) mask ink
 
 -- refused with 13
 abbrev pub Not : List ℕ → Type 0
 Not file = Refuses file m9 i66 NotPgm
 
-abbrev pub Writes : Size → List ℕ → List ℕ → WriteAnswer → List ℕ → Type 0
+abbrev pub Writes : Size → List ℕ → List ℕ → Result ℕ Fault → List ℕ → Type 0
 Writes size mask file answer after = (write_call size (length mask) (length file) ≡ answer) × (file_after answer size mask file ≡ after)
 
 -- eleven bytes of 9
@@ -136,11 +133,11 @@ pub record Files : Type 0 where
   pub no_mask : Refuses (small ++ d255 ++ lf ++ c7) [] i66 BufferTooShort
   pub ink_one_short : Refuses (small ++ d255 ++ lf ++ c7) m9 (6 ∷ []) BufferTooShort
   -- written
-  pub writes : Writes (by 1 1) c7 (nine11 ++ (9 ∷ 8 ∷ [])) (write.Written 12) (small ++ d255 ++ lf ++ c7 ++ (8 ∷ []))
-  pub file_one_short : Writes (by 1 1) c7 nine11 (write.Refused BufferTooShort) nine11
-  pub mask_one_short : Writes (by 1 2) c7 (nine11 ++ (9 ∷ 9 ∷ [])) (write.Refused BufferTooShort) (nine11 ++ (9 ∷ 9 ∷ []))
-  pub no_width_before_size : Writes (by 0 4097) [] nine11 (write.Refused NotPgm) nine11
-  pub no_height : Writes (by 1 0) c7 nine11 (write.Refused NotPgm) nine11
-  pub size_before_mask_short : Writes (by 4097 1) [] [] (write.Refused MaskTooLarge) []
+  pub writes : Writes (by 1 1) c7 (nine11 ++ (9 ∷ 8 ∷ [])) (Ok 12) (small ++ d255 ++ lf ++ c7 ++ (8 ∷ []))
+  pub file_one_short : Writes (by 1 1) c7 nine11 (Err BufferTooShort) nine11
+  pub mask_one_short : Writes (by 1 2) c7 (nine11 ++ (9 ∷ 9 ∷ [])) (Err BufferTooShort) (nine11 ++ (9 ∷ 9 ∷ []))
+  pub no_width_before_size : Writes (by 0 4097) [] nine11 (Err NotPgm) nine11
+  pub no_height : Writes (by 1 0) c7 nine11 (Err NotPgm) nine11
+  pub size_before_mask_short : Writes (by 4097 1) [] [] (Err MaskTooLarge) []
   pub one_digit_more : header_text (by 10 9) ≡ mark ++ lf ++ (49 ∷ 48 ∷ []) ++ sp ++ (57 ∷ []) ++ lf ++ d255 ++ lf
   pub a_digit_of_0 : header_text (by 100 4096) ≡ mark ++ lf ++ (49 ∷ 48 ∷ 48 ∷ []) ++ sp ++ (52 ∷ 48 ∷ 57 ∷ 54 ∷ []) ++ lf ++ d255 ++ lf

@@ -1,6 +1,6 @@
 -- What document 02, changes 4, 8 and 9, says of PGM files as a whole, stated of the definitions in Calls.antt. Proved in
 -- proofs/Writing.antt, Reading.antt, Decimal.antt, RoundTrip.antt and Prints.antt.
-use Rattle.std.specs.Prelude.{◌≡◌, ◌⊎◌, List, ◌++◌, ℕ, ◌+◌, ◌≤◌, ◌<◌, length, get_or, take, drop}
+use Rattle.std.specs.Prelude.{◌≡◌, ◌⊎◌, List, ◌++◌, ℕ, ◌+◌, ◌≤◌, ◌<◌, length, get_or, take, drop, Ok}
 use Rattle.fault.specs.declared.Fault.{Fault}
 use Rattle.fault.specs.declared.Fault.TheVariants.{MaskTooLarge, BufferTooShort, NotPgm, WrongDepth, WrongRaster}
 use Rattle.fault.specs.Check.{ForItsFirstCause}
@@ -14,8 +14,6 @@ use Rattle.pgm_reader.specs.Reading.{value_of}
 use Rattle.pgm_reader.specs.Laws.{Digits, HeaderIs}
 use Rattle.pgm_writer.specs.Text.{HasCells, decimal}
 use Rattle.pgm.specs.Calls.{file_length, write_call, file_after, record_read, read_call, mask_after_reading, ink_after_reading}
-use Rattle.pgm.specs.declared.WriteAnswer.TheVariants as write
-use Rattle.pgm.specs.declared.ReadAnswer.TheVariants as read
 
 -- ---- writing
 
@@ -33,9 +31,9 @@ pub data FirstWriteCause (size : Size) (mask file : ℕ) : Fault → Type 0 wher
   either_short : HasCells size → SizeAllowed size → (mask < cells_of size) ⊎ (file < file_length size) → FirstWriteCause size mask file BufferTooShort
 
 pub record WrittenExactlyWhen : Type 0 where
-  pub done_only : (size : Size) (mask file n : ℕ) → write_call size mask file ≡ write.Written n → CanWrite size mask file × (n ≡ file_length size)
-  pub done_always : (size : Size) (mask file : ℕ) → CanWrite size mask file → write_call size mask file ≡ write.Written (file_length size)
-  pub refused : (size : Size) (mask file : ℕ) → ForItsFirstCause write.Refused (write_call size mask file) (FirstWriteCause size mask file)
+  pub done_only : (size : Size) (mask file n : ℕ) → write_call size mask file ≡ Ok n → CanWrite size mask file × (n ≡ file_length size)
+  pub done_always : (size : Size) (mask file : ℕ) → CanWrite size mask file → write_call size mask file ≡ Ok (file_length size)
+  pub refused : (size : Size) (mask file : ℕ) → ForItsFirstCause (write_call size mask file) (FirstWriteCause size mask file)
 
 -- a number as it is written: its digits spell it, and the first is not 0
 pub record DecimalIs (n : ℕ) : Type 0 where
@@ -72,31 +70,31 @@ pub data FirstReadCause (file : List ℕ) (lent : Lent) : Fault → Type 0 where
 -- a file is read exactly when it is taken and there is room for its cells, which are then the mask's, and for its ink; 'A
 -- mask read from PGM stands at (0, 0)'; it is refused exactly for its first cause
 pub record ReadExactlyWhen : Type 0 where
-  pub done_only : (file : List ℕ) (r : MaskRecord) (lent : Lent) → read_call file lent ≡ read.Read r
+  pub done_only : (file : List ℕ) (r : MaskRecord) (lent : Lent) → read_call file lent ≡ Ok r
       → (raster : List ℕ) × (Taken file r.size raster × (LentEnough r.size lent × (r.corner ≡ sheet_origin)))
   pub done_always : (file : List ℕ) (size : Size) (raster : List ℕ) (lent : Lent) → Taken file size raster → LentEnough size lent
-      → read_call file lent ≡ read.Read (record_read size)
+      → read_call file lent ≡ Ok (record_read size)
   pub cells : (file : List ℕ) (size : Size) (raster mask : List ℕ) → Taken file size raster
-      → mask_after_reading (read.Read (record_read size)) file mask ≡ raster ++ drop (cells_of size) mask
-  pub refused : (file : List ℕ) (lent : Lent) → ForItsFirstCause read.Refused (read_call file lent) (FirstReadCause file lent)
+      → mask_after_reading (Ok (record_read size)) file mask ≡ raster ++ drop (cells_of size) mask
+  pub refused : (file : List ℕ) (lent : Lent) → ForItsFirstCause (read_call file lent) (FirstReadCause file lent)
 
 -- 'A print loop that sends only those stretches onto blank paper prints the same cells as one that sends every byte'
 -- (change 9), by the numbers that a done reading leaves
 abbrev pub ReadPrints : Type 0
-ReadPrints = (file mask ink : List ℕ) (r : MaskRecord) → read_call file (lent_of mask ink) ≡ read.Read r →
-    let after = mask_after_reading (read.Read r) file mask in
-    PrintsTheMask r.size after (ink_after_reading (read.Read r) after ink)
+ReadPrints = (file mask ink : List ℕ) (r : MaskRecord) → read_call file (lent_of mask ink) ≡ Ok r →
+    let after = mask_after_reading (Ok r) file mask in
+    PrintsTheMask r.size after (ink_after_reading (Ok r) after ink)
 
 -- ---- both
 
 -- what a done writing leaves in the first n bytes of what is lent for the file: the file
 abbrev pub written : Size → List ℕ → List ℕ → ℕ → List ℕ
-written size mask file n = take n (file_after (write.Written n) size mask file)
+written size mask file n = take n (file_after (Ok n) size mask file)
 
 -- 'A mask that has cells, once written, reads to the same size and cells', into another mask that has room for them, its
 -- ink beside it
 abbrev pub RoundTrip : Type 0
 RoundTrip =
-    (size : Size) (mask file other ink : List ℕ) (n : ℕ) → write_call size (length mask) (length file) ≡ write.Written n → LentEnough size (lent_of other ink)
-    → (read_call (written size mask file n) (lent_of other ink) ≡ read.Read (record_read size))
-    × (mask_after_reading (read.Read (record_read size)) (written size mask file n) other ≡ take (cells_of size) mask ++ drop (cells_of size) other)
+    (size : Size) (mask file other ink : List ℕ) (n : ℕ) → write_call size (length mask) (length file) ≡ Ok n → LentEnough size (lent_of other ink)
+    → (read_call (written size mask file n) (lent_of other ink) ≡ Ok (record_read size))
+    × (mask_after_reading (Ok (record_read size)) (written size mask file n) other ≡ take (cells_of size) mask ++ drop (cells_of size) other)

@@ -1,20 +1,18 @@
 -- A file that is read where no mask is lent, and no ink: refused as it would be, and with 4 where nothing else is refused.
 -- Assumes nothing.
+use Rattle.std.specs.Prelude.{Result, Ok, Err}
 use mathlib.Core.Path.{◌≡◌, refl}
 use mathlib.Core.Bool.{true}
 use mathlib.Core.Logic.{inl}
 use mathlib.Core.List.{List}
 use Prim.Native.Nat.{ℕ, ◌<◌}
 use native.Mathlib.Nat.{mul-le-mul}
-use native.Mathlib.Omega.{arith}
 use Rattle.fault.specs.declared.Fault.{Fault}
 use Rattle.fault.specs.declared.Fault.TheVariants.{BufferTooShort}
 use Rattle.cells.specs.declared.Size.{Size}
 use Rattle.cells.specs.declared.MaskRecord.{MaskRecord}
 use Rattle.cells.specs.Cells.{cells_of}
 use Rattle.ink.specs.Lent.{Lent}
-use Rattle.pgm.specs.declared.ReadAnswer.{ReadAnswer}
-use Rattle.pgm.specs.declared.ReadAnswer.TheVariants as read
 use Rattle.pgm.specs.Calls.{read_call}
 use Rattle.pgm.specs.Laws.{Taken, FirstReadCause, no_header, wrong_depth, too_large_law, wrong_raster, lent_short_law}
 use Rattle.pgm.proofs.Reading.{read_exactly_when}
@@ -38,15 +36,8 @@ still (lent_short_law size raster t l) = lent_short_law size raster t (inl (some
 pub unlent : (file : List ℕ) (lent : Lent) → read_call file nothing ≡ record_short true (read_call file lent)
 unlent file lent = go (read_call file lent) refl
   where
-    go : (r : ReadAnswer) → read_call file lent ≡ r → read_call file nothing ≡ record_short true r
-    go (read.Read r) e =
+    go : (r : Result MaskRecord Fault) → read_call file lent ≡ r → read_call file nothing ≡ record_short true r
+    go (Ok r) e =
         let d = read_exactly_when.done_only file r lent e in
         (read_exactly_when.refused file nothing).always BufferTooShort (lent_short_law r.size d.0 d.1.0 (inl (some d.1.0)))
-    go (read.Refused f) e = (read_exactly_when.refused file nothing).always f (still ((read_exactly_when.refused file lent).only f e))
-
-pub not_read : (file : List ℕ) (r : MaskRecord) → read_call file nothing ≡ read.Read r → ⊥
-not_read file r e =
-    let d = read_exactly_when.done_only file r nothing e in
-    let l = d.1.1.0.cells in
-    let s = some d.1.0 in
-    omega arith
+    go (Err f) e = (read_exactly_when.refused file nothing).always f (still ((read_exactly_when.refused file lent).only f e))

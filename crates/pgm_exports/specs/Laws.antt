@@ -1,6 +1,6 @@
 -- When a file is read on lent slices, and why not: as a file is read (pgm/specs/Laws.antt), and two numbers are lent for
 -- its size and two for its corner. Proved in proofs/Laws.antt.
-use Rattle.std.specs.Prelude.{◌≡◌, ◌⊎◌, List, ℕ, ◌≤◌, ◌<◌}
+use Rattle.std.specs.Prelude.{◌≡◌, ◌⊎◌, List, ℕ, ◌≤◌, ◌<◌, Ok}
 use Rattle.fault.specs.declared.Fault.{Fault}
 use Rattle.fault.specs.declared.Fault.TheVariants.{BufferTooShort}
 use Rattle.fault.specs.Check.{ForItsFirstCause}
@@ -8,7 +8,6 @@ use Rattle.cells.specs.declared.Size.{Size}
 use Rattle.cells.specs.declared.MaskRecord.{MaskRecord}
 use Rattle.cells.specs.Corner.{sheet_origin}
 use Rattle.ink.specs.Lent.{Lent, LentEnough}
-use Rattle.pgm.specs.declared.ReadAnswer.TheVariants as read
 use Rattle.pgm.specs.Calls.{record_read}
 use Rattle.pgm.specs.Laws.{Taken, FirstReadCause}
 use Rattle.pgm_exports.specs.Calls.{read_lent}
@@ -21,9 +20,9 @@ pub data FirstLentCause (file : List ℕ) (lent : Lent) (size corner : ℕ) : Fa
       → FirstLentCause file lent size corner BufferTooShort
 
 pub record ReadLentExactlyWhen : Type 0 where
-  pub done_only : (file : List ℕ) (lent : Lent) (size corner : ℕ) (r : MaskRecord) → read_lent file lent size corner ≡ read.Read r
+  pub done_only : (file : List ℕ) (lent : Lent) (size corner : ℕ) (r : MaskRecord) → read_lent file lent size corner ≡ Ok r
       → (raster : List ℕ) × (Taken file r.size raster × (LentEnough r.size lent × ((2 ≤ size) × ((2 ≤ corner) × (r.corner ≡ sheet_origin)))))
   pub done_always : (file : List ℕ) (lent : Lent) (size corner : ℕ) (s : Size) (raster : List ℕ) → Taken file s raster → LentEnough s lent → 2 ≤ size → 2 ≤ corner
-      → read_lent file lent size corner ≡ read.Read (record_read s)
+      → read_lent file lent size corner ≡ Ok (record_read s)
   pub refused : (file : List ℕ) (lent : Lent) (size corner : ℕ)
-      → ForItsFirstCause read.Refused (read_lent file lent size corner) (FirstLentCause file lent size corner)
+      → ForItsFirstCause (read_lent file lent size corner) (FirstLentCause file lent size corner)

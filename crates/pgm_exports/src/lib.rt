@@ -9,14 +9,12 @@ ghost use Rattle.ink.specs.Lent.{lent};
 ghost use Rattle.pgm_exports.specs.Calls.{write_lent, file_written, read_lent, mask_read, ink_read};
 
 use cells::Size;
-use pgm::ReadAnswer;
+use fault::Fault;
 
 // How many numbers a size takes, and a corner.
 const SIZE: usize = 2;
 
 const CORNER: usize = 2;
-
-const TOO_SHORT: u8 = 4;
 
 pub fn write_pgm(mask: &[u8], width: usize, height: usize, file: &mut [u8]) -> u32
     ensures number { result ≡ write_number (write_lent width height mask.now file.old) }
@@ -32,8 +30,8 @@ fn refuse(file: &[u8], mask: &mut [u8], ink: &mut [u16]) -> u8
     ensures ink_unchanged { ink.new ≡ ink.old }
 {
     match pgm::read_pgm(file, &mut mask[0..0], &mut ink[0..0]) {
-        ReadAnswer::Read(_) => TOO_SHORT,
-        ReadAnswer::Refused(fault) => fault.number(),
+        Ok(_) => Fault::BufferTooShort.number(),
+        Err(fault) => fault.number(),
     }
 }
 

@@ -27,8 +27,8 @@ use Rattle.coverage.proofs.Places.{drawing_length, drawing_byte}
 use Rattle.laying.specs.declared.Offset.{Offset}
 use Rattle.laying.specs.Laying.{Laying, laying, laid_byte, met_at, laid_cell, laying_of}
 use Rattle.laying.proofs.Laid.{laying_length, laying_byte}
-use Rattle.mask.specs.declared.Outcome.{Outcome}
-use Rattle.mask.specs.declared.Outcome.TheVariants.{Done, Refused}
+use Rattle.fault.specs.Check.{Check}
+use Rattle.std.specs.Prelude.{Ok, Err}
 use Rattle.mask.specs.Calls.{Drawing, draw_answer, mask_after_drawing, mask_after_laying}
 use Rattle.mask.proofs.Causes.{done_exactly_when}
 use Rattle.bound.proofs.Close.{drawn_bytes_are_close}
@@ -94,7 +94,7 @@ held_first b d next = none_held b.at_next d.at_next
 -- ---- a call that writes a mask's cells keeps what is lent for the mask and its ink as long as it was
 
 written_lengths : (size : Size) (cells : List ℕ) (b : Buffer) → length cells ≡ cells_of size → LentEnough size (lent_of b)
-    → lent_of (buffer_left Done size (cells ++ drop (cells_of size) b.mask) b) ≡ lent_of b
+    → lent_of (buffer_left (Ok tt) size (cells ++ drop (cells_of size) b.mask) b) ≡ lent_of b
 written_lengths size cells b e enough =
     let after = cells ++ drop (cells_of size) b.mask in
     ap₂ (λ (m i : ℕ). lengths m i) (whole_length size cells b.mask e enough.cells) (numbers_of_rows.kept size after b.ink enough.ink)
@@ -111,24 +111,24 @@ module _ (d : Drawing) where
   abbrev cells : List ℕ
   cells = drawing_of d.size (groups_of d.words)
 
-  enough : (b : Buffer) → draw_answer d (lent_of b) ≡ Done → LentEnough d.size (lent_of b)
+  enough : (b : Buffer) → draw_answer d (lent_of b) ≡ Ok tt → LentEnough d.size (lent_of b)
   enough b e = (done_exactly_when.only d (lent_of b) e).enough
 
-  pub draw_lengths : (o : Outcome) (b : Buffer) → draw_answer d (lent_of b) ≡ o → lent_of (drawn_on o d b) ≡ lent_of b
-  draw_lengths (Refused f) b e = refl
-  draw_lengths Done b e = written_lengths d.size cells b (drawing_length d.size (groups_of d.words)) (enough b e)
+  pub draw_lengths : (o : Check) (b : Buffer) → draw_answer d (lent_of b) ≡ o → lent_of (drawn_on o d b) ≡ lent_of b
+  draw_lengths (Err f) b e = refl
+  draw_lengths (Ok _) b e = written_lengths d.size cells b (drawing_length d.size (groups_of d.words)) (enough b e)
 
   drawn_byte : (mask : List ℕ) (column row : ℕ) → column < d.size.width → row < d.size.height
-      → byte_at d.size (mask_after_drawing Done d mask) column row ≡ get_or (drawing_row d.size (groups_of d.words) row) column 0
+      → byte_at d.size (mask_after_drawing (Ok tt) d mask) column row ≡ get_or (drawing_row d.size (groups_of d.words) row) column 0
   drawn_byte mask column row c r =
       front_byte d.size cells (drop (cells_of d.size) mask) (drawing_length d.size (groups_of d.words)) column row c r
       ∙ drawing_byte d.size (groups_of d.words) column row c r
 
-  room : (b : Buffer) → draw_answer d (lent_of b) ≡ Done → cells_of d.size ≤ length (drawn_on Done d b).mask
-  room b e = rw (long_mask (drawn_on Done d b) b (draw_lengths Done b e)) (enough b e).cells
+  room : (b : Buffer) → draw_answer d (lent_of b) ≡ Ok tt → cells_of d.size ≤ length (drawn_on (Ok tt) d b).mask
+  room b e = rw (long_mask (drawn_on (Ok tt) d b) b (draw_lengths (Ok tt) b e)) (enough b e).cells
 
-  pub draw_held : (corner : Corner) (l k : Buffer) → draw_answer d (lent_of l) ≡ Done → draw_answer d (lent_of k) ≡ Done
-      → MaskHeld (drawn_held corner d) (drawn_on Done d l) (drawn_on Done d k)
+  pub draw_held : (corner : Corner) (l k : Buffer) → draw_answer d (lent_of l) ≡ Ok tt → draw_answer d (lent_of k) ≡ Ok tt
+      → MaskHeld (drawn_held corner d) (drawn_on (Ok tt) d l) (drawn_on (Ok tt) d k)
   draw_held corner l k e f = record {
     room = room l e;
     room_too = room k f;
@@ -139,16 +139,16 @@ module _ (d : Drawing) where
       close = drawn_bytes_are_close d l.mask l.ink e column row c r;
       same = drawn_byte l.mask column row c r ∙ sym (drawn_byte k.mask column row c r);
     };
-    scanned = numbers_of_rows.rows d.size (mask_after_drawing Done d l.mask) l.ink;
-    scanned_too = numbers_of_rows.rows d.size (mask_after_drawing Done d k.mask) k.ink;
+    scanned = numbers_of_rows.rows d.size (mask_after_drawing (Ok tt) d l.mask) l.ink;
+    scanned_too = numbers_of_rows.rows d.size (mask_after_drawing (Ok tt) d k.mask) k.ink;
   }
 
 -- ---- a laying-on
 
 -- by an offset or by corners: what is done has room
-pub lay_lengths : (l : Laying) (o : Outcome) (b : Buffers) → (o ≡ Done → LentEnough l.size (lent_of b.at_running)) → lent_of (laid_on o l b) ≡ lent_of b.at_running
-lay_lengths l (Refused f) b enough = refl
-lay_lengths l Done b enough =
+pub lay_lengths : (l : Laying) (o : Check) (b : Buffers) → (o ≡ Ok tt → LentEnough l.size (lent_of b.at_running)) → lent_of (laid_on o l b) ≡ lent_of b.at_running
+lay_lengths l (Err f) b enough = refl
+lay_lengths l (Ok _) b enough =
     let cells = laying_of l b.at_running.mask b.at_next.mask in
     written_lengths l.size cells b.at_running (laying_length l b.at_running.mask b.at_next.mask) (enough refl)
 
@@ -182,17 +182,17 @@ module _ (h o : Held) (offset : Offset) where
   abbrev given : Laying
   given = laying h.size o.size offset
 
-  long : (mask other : List ℕ) → cells_of h.size ≤ length mask → length (mask_after_laying Done given mask other) ≡ length mask
+  long : (mask other : List ℕ) → cells_of h.size ≤ length mask → length (mask_after_laying (Ok tt) given mask other) ≡ length mask
   long mask other r = whole_length h.size (laying_of given mask other) mask (laying_length given mask other) r
 
   laid_byte_lem : (mask other : List ℕ) (column row : ℕ) → column < h.size.width → row < h.size.height
-      → byte_at h.size (mask_after_laying Done given mask other) column row ≡ laid_cell given other (byte_at h.size mask column row) column row
+      → byte_at h.size (mask_after_laying (Ok tt) given mask other) column row ≡ laid_cell given other (byte_at h.size mask column row) column row
   laid_byte_lem mask other column row c r =
       front_byte h.size (laying_of given mask other) (drop (cells_of h.size) mask) (laying_length given mask other) column row c r
       ∙ laying_byte given mask other column row c r
 
   pub lay_held : (b d : Buffers) → MaskHeld h b.at_running d.at_running → MaskHeld o b.at_next d.at_next
-      → MaskHeld (laid_held h o offset) (laid_on Done given b) (laid_on Done given d)
+      → MaskHeld (laid_held h o offset) (laid_on (Ok tt) given b) (laid_on (Ok tt) given d)
   lay_held b d m n =
       let l = b.at_running.mask in
       let k = d.at_running.mask in
@@ -204,6 +204,6 @@ module _ (h o : Held) (offset : Offset) where
         cells = λ column row c r.
             subst₂ (λ (x y : ℕ). CellHeld ((laid_held h o offset).cell column row) x y) (sym (laid_byte_lem l l' column row c r)) (sym (laid_byte_lem k k' column row c r))
             (met o n (m.cells column row c r) (pos column +ℤ offset.x) (pos row +ℤ offset.y));
-        scanned = numbers_of_rows.rows h.size (mask_after_laying Done given l l') b.at_running.ink;
-        scanned_too = numbers_of_rows.rows h.size (mask_after_laying Done given k k') d.at_running.ink;
+        scanned = numbers_of_rows.rows h.size (mask_after_laying (Ok tt) given l l') b.at_running.ink;
+        scanned_too = numbers_of_rows.rows h.size (mask_after_laying (Ok tt) given k k') d.at_running.ink;
       }

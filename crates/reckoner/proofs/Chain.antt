@@ -6,8 +6,8 @@ use Prim.Native.Nat.{ℕ, ◌<◌}
 use Rattle.cells.specs.declared.Size.{Size}
 use Rattle.laying.specs.Laying.{Laying, laying}
 use Rattle.laying.specs.Placed.{Placed, placed, by_offset, offset_between}
-use Rattle.mask.specs.declared.Outcome.{Outcome}
-use Rattle.mask.specs.declared.Outcome.TheVariants.{Done, Refused}
+use Rattle.fault.specs.Check.{Check}
+use Rattle.std.specs.Prelude.{Ok, Err}
 use Rattle.ink.specs.Ink.{ink_of, stretch_at}
 use Rattle.ink.specs.Lent.{Lent, LentEnough}
 use Rattle.ink.proofs.Lines.{line_same}
@@ -33,23 +33,23 @@ put_lengths p lengths b l h e = go p (e ∙ h p)
     go next e next = e
 
 -- the buffers after a call with this answer
-abbrev after : Outcome → Call → Buffers → Buffers
+abbrev after : Check → Call → Buffers → Buffers
 after o (draw p corner d) b = put p (drawn_on o d (of p b)) b
 after o (lay l) b = put running (laid_on o l b) b
 after o (lay_placed q) b = put running (laid_on o (by_offset q) b) b
 
 -- whatever the ink held, the same bytes
-same_drawn : (o : Outcome) (p : Place) (e : Drawing) {b d : Buffers} → SameBytes b d → SameBytes (put p (drawn_on o e (of p b)) b) (put p (drawn_on o e (of p d)) d)
+same_drawn : (o : Check) (p : Place) (e : Drawing) {b d : Buffers} → SameBytes b d → SameBytes (put p (drawn_on o e (of p b)) b) (put p (drawn_on o e (of p d)) d)
 same_drawn o running e same running = ap (mask_after_drawing o e) (same running)
 same_drawn o running e same next = same next
 same_drawn o next e same running = same running
 same_drawn o next e same next = ap (mask_after_drawing o e) (same next)
 
-same_laid : (o : Outcome) (l : Laying) {b d : Buffers} → SameBytes b d → SameBytes (put running (laid_on o l b) b) (put running (laid_on o l d) d)
+same_laid : (o : Check) (l : Laying) {b d : Buffers} → SameBytes b d → SameBytes (put running (laid_on o l b) b) (put running (laid_on o l d) d)
 same_laid o l same running = ap₂ (mask_after_laying o l) (same running) (same next)
 same_laid o l same next = same next
 
-same_after : (o : Outcome) (c : Call) {b d : Buffers} → SameBytes b d → SameBytes (after o c b) (after o c d)
+same_after : (o : Check) (c : Call) {b d : Buffers} → SameBytes b d → SameBytes (after o c b) (after o c d)
 same_after o (draw p corner e) same = same_drawn o p e same
 same_after o (lay l) same = same_laid o l same
 same_after o (lay_placed q) same = same_laid o (by_offset q) same
@@ -63,14 +63,14 @@ module _ (lengths : Two Lent) where
   one_answer (lay_placed q) b s h = ap₂ (λ (m n : Lent). lay_placed_answer q m n.mask) (h running) (h next)
 
   one_after : (c : Call) (b : Buffers) (s : ScratchFor c) → HasLengths lengths b → buffers_after b c s ≡ after (answer lengths c) c b
-  one_after (draw p corner d) b s h = ap₂ (λ (o : Outcome) (e : Drawing). put p (drawn_on o e (of p b)) b) (one_answer (draw p corner d) b s h) (given_is s)
-  one_after (lay l) b s h = ap (λ (o : Outcome). after o (lay l) b) (one_answer (lay l) b s h)
-  one_after (lay_placed q) b s h = ap (λ (o : Outcome). after o (lay_placed q) b) (one_answer (lay_placed q) b s h)
+  one_after (draw p corner d) b s h = ap₂ (λ (o : Check) (e : Drawing). put p (drawn_on o e (of p b)) b) (one_answer (draw p corner d) b s h) (given_is s)
+  one_after (lay l) b s h = ap (λ (o : Check). after o (lay l) b) (one_answer (lay l) b s h)
+  one_after (lay_placed q) b s h = ap (λ (o : Check). after o (lay_placed q) b) (one_answer (lay_placed q) b s h)
 
   one_length : (c : Call) (b : Buffers) (s : ScratchFor c) → HasLengths lengths b → HasLengths lengths (buffers_after b c s)
   one_length c b s h = rw (one_after c b s h) (go c)
     where
-      laid : (l : Laying) (o : Outcome) → (o ≡ Done → LentEnough l.size (lent_of b.at_running)) → HasLengths lengths (put running (laid_on o l b) b)
+      laid : (l : Laying) (o : Check) → (o ≡ Ok tt → LentEnough l.size (lent_of b.at_running)) → HasLengths lengths (put running (laid_on o l b) b)
       laid l o enough = put_lengths running lengths b (laid_on o l b) h (lay_lengths l o b enough)
 
       go : (c : Call) → HasLengths lengths (after (answer lengths c) c b)
@@ -83,18 +83,18 @@ module _ (lengths : Two Lent) where
 
   -- a laying-on that is given the sizes held
   lay_both : (l : Laying) (held : Two Held) (b d : Buffers) → l.size ≡ held.at_running.size → l.other_size ≡ held.at_next.size → BothHeld held b d
-      → BothHeld (step Done (lay l) held) (after Done (lay l) b) (after Done (lay l) d)
+      → BothHeld (step (Ok tt) (lay l) held) (after (Ok tt) (lay l) b) (after (Ok tt) (lay l) d)
   lay_both l held b d p q i =
-      subst (λ (x : Laying). BothHeld (step Done (lay l) held) (after Done (lay x) b) (after Done (lay x) d))
+      subst (λ (x : Laying). BothHeld (step (Ok tt) (lay l) held) (after (Ok tt) (lay x) b) (after (Ok tt) (lay x) d))
       (ap₂ (λ (x y : Size). laying x y l.offset) (sym p) (sym q))
       (put_held running i (lay_held held.at_running held.at_next l.offset b d (i running) (i next)))
 
   -- one by corners that is given the sizes and the corners held
   placed_both : (q : Placed) (held : Two Held) (b d : Buffers) → q.own ≡ record_of held.at_running → q.other ≡ record_of held.at_next → BothHeld held b d
-      → BothHeld (step Done (lay_placed q) held) (after Done (lay_placed q) b) (after Done (lay_placed q) d)
+      → BothHeld (step (Ok tt) (lay_placed q) held) (after (Ok tt) (lay_placed q) b) (after (Ok tt) (lay_placed q) d)
   placed_both q held b d o p i =
       let between = offset_between held.at_running.corner held.at_next.corner in
-      subst (λ (x : Placed). BothHeld (step Done (lay_placed q) held) (after Done (lay_placed x) b) (after Done (lay_placed x) d)) (ap₂ placed (sym o) (sym p))
+      subst (λ (x : Placed). BothHeld (step (Ok tt) (lay_placed q) held) (after (Ok tt) (lay_placed x) b) (after (Ok tt) (lay_placed x) d)) (ap₂ placed (sym o) (sym p))
       (put_held running i (lay_held held.at_running held.at_next between b d (i running) (i next)))
 
   one_held : (c : Call) (held : Two Held) (b d : Buffers) (s t : ScratchFor c) → Given (answer lengths c) c held → HasLengths lengths b → HasLengths lengths d
@@ -102,13 +102,13 @@ module _ (lengths : Two Lent) where
   one_held c held b d s t g h j i =
       subst₂ (λ (x y : Buffers). BothHeld (step (answer lengths c) c held) x y) (sym (one_after c b s h)) (sym (one_after c d t j)) (go c (answer lengths c) refl g)
     where
-      go : (c : Call) (o : Outcome) → answer lengths c ≡ o → Given o c held → BothHeld (step o c held) (after o c b) (after o c d)
-      go (draw p corner e) (Refused f) q g = stay_held p i
-      go (draw p corner e) Done q g = put_held p i (draw_held e _ (of p b) (of p d) (ap (draw_answer e) (h p) ∙ q) (ap (draw_answer e) (j p) ∙ q))
-      go (lay l) (Refused f) q g = stay_held running i
-      go (lay l) Done q g = lay_both l held b d g.0 g.1 i
-      go (lay_placed q) (Refused f) e g = stay_held running i
-      go (lay_placed q) Done e g = placed_both q held b d g.0 g.1 i
+      go : (c : Call) (o : Check) → answer lengths c ≡ o → Given o c held → BothHeld (step o c held) (after o c b) (after o c d)
+      go (draw p corner e) (Err f) q g = stay_held p i
+      go (draw p corner e) (Ok _) q g = put_held p i (draw_held e _ (of p b) (of p d) (ap (draw_answer e) (h p) ∙ q) (ap (draw_answer e) (j p) ∙ q))
+      go (lay l) (Err f) q g = stay_held running i
+      go (lay l) (Ok _) q g = lay_both l held b d g.0 g.1 i
+      go (lay_placed q) (Err f) e g = stay_held running i
+      go (lay_placed q) (Ok _) e g = placed_both q held b d g.0 g.1 i
 
   -- whatever the ink held
   one_same : (c : Call) (b d : Buffers) (s t : ScratchFor c) → HasLengths lengths b → HasLengths lengths d → SameBytes b d
@@ -121,7 +121,7 @@ module _ (lengths : Two Lent) where
   all_answers : (cs : List Call) (b : Buffers) (s : Scratches cs) → HasLengths lengths b → all_answered cs s b ≡ answers lengths cs
   all_answers [] b s h = refl
   all_answers (c ∷ cs) b s h =
-      ap₂ (λ (o : Outcome) (os : List Outcome). o ∷ os) (one_answer c b s.0 h) (all_answers cs (buffers_after b c s.0) s.1 (one_length c b s.0 h))
+      ap₂ (λ (o : Check) (os : List Check). o ∷ os) (one_answer c b s.0 h) (all_answers cs (buffers_after b c s.0) s.1 (one_length c b s.0 h))
 
   all_lengths : (cs : List Call) (b : Buffers) (s : Scratches cs) → HasLengths lengths b → HasLengths lengths (buffers_after_all cs s b)
   all_lengths [] b s h = h
@@ -150,7 +150,7 @@ same_ink {held} {one} {other} i row r =
 pub every_list : EveryList
 every_list lengths cs = record {
   answers_are = λ b h s. all_answers lengths cs b s h;
-  numbers_only = λ b h s. subst (λ (os : List Outcome). CallNumbers lengths cs (numbers os)) (sym (all_answers lengths cs b s h)) (list_only lengths cs);
+  numbers_only = λ b h s. subst (λ (os : List Check). CallNumbers lengths cs (numbers os)) (sym (all_answers lengths cs b s h)) (list_only lengths cs);
   numbers_always = λ b h s ns k. ap numbers (all_answers lengths cs b s h) ∙ list_always lengths cs ns k;
   scratch_never_matters = scratch_never_matters cs;
   lengths_kept = λ b h s. all_lengths lengths cs b s h;

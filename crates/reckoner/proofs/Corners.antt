@@ -5,8 +5,8 @@ use lib.IntN.{ℤ, pos, negsuc, ◌+ℤ◌}
 use Rattle.cells.specs.declared.Corner.{Corner}
 use Rattle.laying.specs.Laying.{Laying}
 use Rattle.laying.specs.Placed.{placed}
-use Rattle.mask.specs.declared.Outcome.{Outcome}
-use Rattle.mask.specs.declared.Outcome.TheVariants.{Done, Refused}
+use Rattle.fault.specs.Check.{Check}
+use Rattle.std.specs.Prelude.{Ok, Err}
 use Rattle.ink.specs.Lent.{Lent}
 use Rattle.mask.specs.Calls.{Drawing, draw_answer}
 use Rattle.mask.proofs.Causes.{can_draw}
@@ -20,11 +20,11 @@ use Rattle.reckoner.specs.Corners.{SameButCorners, no_more, drawn, laid, scratch
 -- ---- cards are meant
 
 module _ (lengths : Two Lent) where
-  meant_done : (c : Call) (cs : List Call) (held : Two Held) → answer lengths c ≡ Done → Given Done c held → Meant lengths cs (step Done c held) → Meant lengths (c ∷ cs) held
+  meant_done : (c : Call) (cs : List Call) (held : Two Held) → answer lengths c ≡ Ok tt → Given (Ok tt) c held → Meant lengths cs (step (Ok tt) c held) → Meant lengths (c ∷ cs) held
   meant_done c cs held e g m = rw e (g, m)
 
   module _ (first : DrawingAt) (can : CanPlace lengths.at_running first) where
-    lay_done : (f : DrawingAt) → CanPlace lengths.at_next f → answer lengths (lay_placed (placed (record_given first) (record_given f))) ≡ Done
+    lay_done : (f : DrawingAt) → CanPlace lengths.at_next f → answer lengths (lay_placed (placed (record_given first) (record_given f))) ≡ Ok tt
     lay_done f c = can_lay_placed (placed (record_given first) (record_given f)) lengths.at_running lengths.at_next.mask (record {
       corner_allowed = can.1;
       other_corner_allowed = c.1;
@@ -68,31 +68,31 @@ meets_same o q m e (pos x) (negsuc y) = ap alone e
 meets_same o q m e (negsuc x) y = ap alone e
 
 -- a step of both
-draw_same : (o : Outcome) (p : Place) (one other : Corner) (d : Drawing) {h k : Two Held} → SameMasks h k → SameMasks (step o (draw p one d) h) (step o (draw p other d) k)
-draw_same (Refused f) p one other d s = s
-draw_same Done p one other d s = put_same p (drawn_held one d) (drawn_held other d) s (refl, λ column row. refl)
+draw_same : (o : Check) (p : Place) (one other : Corner) (d : Drawing) {h k : Two Held} → SameMasks h k → SameMasks (step o (draw p one d) h) (step o (draw p other d) k)
+draw_same (Err f) p one other d s = s
+draw_same (Ok _) p one other d s = put_same p (drawn_held one d) (drawn_held other d) s (refl, λ column row. refl)
 
-lay_same : (o : Outcome) (l : Laying) {h k : Two Held} → SameMasks h k → SameMasks (step o (lay l) h) (step o (lay l) k)
-lay_same (Refused f) l s = s
-lay_same Done l {h} {k} s =
+lay_same : (o : Check) (l : Laying) {h k : Two Held} → SameMasks h k → SameMasks (step o (lay l) h) (step o (lay l) k)
+lay_same (Err f) l s = s
+lay_same (Ok _) l {h} {k} s =
     put_same running (laid_held h.at_running h.at_next l.offset) (laid_held k.at_running k.at_next l.offset) s (
       (s running).0,
       λ column row. meets_same h.at_next k.at_next (s next) ((s running).1 column row) (pos column +ℤ l.offset.x) (pos row +ℤ l.offset.y),
     )
 
-lay_given : (o : Outcome) (l : Laying) {h k : Two Held} → SameMasks h k → Given o (lay l) h → Given o (lay l) k
-lay_given (Refused f) l s g = g
-lay_given Done l s g = (g.0 ∙ (s running).0, g.1 ∙ (s next).0)
+lay_given : (o : Check) (l : Laying) {h k : Two Held} → SameMasks h k → Given o (lay l) h → Given o (lay l) k
+lay_given (Err f) l s g = g
+lay_given (Ok _) l s g = (g.0 ∙ (s running).0, g.1 ∙ (s next).0)
 
-draw_given : (o : Outcome) (p : Place) (corner : Corner) (d : Drawing) (held : Two Held) → Given o (draw p corner d) held
-draw_given (Refused f) p corner d held = tt
-draw_given Done p corner d held = tt
+draw_given : (o : Check) (p : Place) (corner : Corner) (d : Drawing) (held : Two Held) → Given o (draw p corner d) held
+draw_given (Err f) p corner d held = tt
+draw_given (Ok _) p corner d held = tt
 
 module _ (lengths : Two Lent) where
   same_answers : {cs ds : List Call} → SameButCorners cs ds → answers lengths cs ≡ answers lengths ds
   same_answers no_more = refl
-  same_answers (drawn p one other d same) = ap (λ (os : List Outcome). draw_answer d (of p lengths) ∷ os) (same_answers same)
-  same_answers (laid l same) = ap (λ (os : List Outcome). answer lengths (lay l) ∷ os) (same_answers same)
+  same_answers (drawn p one other d same) = ap (λ (os : List Check). draw_answer d (of p lengths) ∷ os) (same_answers same)
+  same_answers (laid l same) = ap (λ (os : List Check). answer lengths (lay l) ∷ os) (same_answers same)
 
   meant_too : {cs ds : List Call} → SameButCorners cs ds → {h k : Two Held} → SameMasks h k → Meant lengths cs h → Meant lengths ds k
   meant_too no_more s m = tt

@@ -7,8 +7,8 @@ use native.Mathlib.Omega.{arith}
 use Rattle.fault.specs.declared.Fault.{Fault}
 use Rattle.cells.specs.declared.Corner.{Corner}
 use Rattle.cells.specs.declared.MaskRecord.{MaskRecord}
-use Rattle.mask.specs.declared.Outcome.{Outcome}
-use Rattle.mask.specs.declared.Outcome.TheVariants.{Done, Refused}
+use Rattle.fault.specs.Check.{Check}
+use Rattle.std.specs.Prelude.{Ok, Err}
 use Rattle.ink.specs.Lent.{Lent}
 use Rattle.mask.specs.Calls.{Drawing, draw_answer}
 use Rattle.reckoner.specs.Reckoner.{Held, Place, running, next, Two, of, put, record_of, at_first, drawn_held, laid_held, laid_placed}
@@ -24,7 +24,7 @@ drawn_record : (p : Place) (held : Two Held) (h : Held) → record_of (of p (put
 drawn_record running held h = refl
 drawn_record next held h = refl
 
-not_done : {f : Fault} → Refused f ≡ Done → ⊥
+not_done : {f : Fault} → ◌≡◌ {A = Check} (Err f) (Ok tt) → ⊥
 not_done e = let z : ◌≡◌ {A = ℕ} 0 1 = cc in omega arith
 
 -- which mask a call draws, as a number
@@ -41,14 +41,14 @@ not_this p c corner d e = ap draws_at e
 module _ (lengths : Two Lent) where
   -- a done drawing of a mask, or none
   abbrev DrawnBy : Place → Call → Type 0
-  DrawnBy p c = (corner : Corner) × ((d : Drawing) × ((c ≡ draw p corner d) × (draw_answer d (of p lengths) ≡ Done)))
+  DrawnBy p c = (corner : Corner) × ((d : Drawing) × ((c ≡ draw p corner d) × (draw_answer d (of p lengths) ≡ Ok tt)))
 
   drawn_by : (p : Place) (corner : Corner) (d : Drawing) → NotDrawn lengths p (draw p corner d) ⊎ DrawnBy p (draw p corner d)
   drawn_by p corner d = go (draw_answer d (of p lengths)) refl
     where
-      go : (o : Outcome) → draw_answer d (of p lengths) ≡ o → NotDrawn lengths p (draw p corner d) ⊎ DrawnBy p (draw p corner d)
-      go Done e = inr (corner, (d, (refl, e)))
-      go (Refused f) e = inl (λ _ _ _ h. not_done (sym e ∙ h))
+      go : (o : Check) → draw_answer d (of p lengths) ≡ o → NotDrawn lengths p (draw p corner d) ⊎ DrawnBy p (draw p corner d)
+      go (Ok _) e = inr (corner, (d, (refl, e)))
+      go (Err f) e = inl (λ _ _ _ h. not_done (sym e ∙ h))
 
   drawn_or_not : (p : Place) (c : Call) → NotDrawn lengths p c ⊎ DrawnBy p c
   drawn_or_not running (draw running corner d) = drawn_by running corner d
@@ -78,14 +78,14 @@ module _ (lengths : Two Lent) where
   keeps : (p : Place) (c : Call) (held : Two Held) → NotDrawn lengths p c → record_of (of p (step (answer lengths c) c held)) ≡ record_of (of p held)
   keeps p c held = go p c (answer lengths c) refl
     where
-      go : (p : Place) (c : Call) (o : Outcome) → answer lengths c ≡ o → NotDrawn lengths p c → record_of (of p (step o c held)) ≡ record_of (of p held)
-      go p c (Refused f) e n = refl
-      go p (lay l) Done e n = laid_records p held (laid_held held.at_running held.at_next l.offset) refl
-      go p (lay_placed q) Done e n = laid_records p held (laid_placed held.at_running held.at_next) refl
-      go running (draw next corner d) Done e n = refl
-      go next (draw running corner d) Done e n = refl
-      go running (draw running corner d) Done e n = absurd (n corner d refl e)
-      go next (draw next corner d) Done e n = absurd (n corner d refl e)
+      go : (p : Place) (c : Call) (o : Check) → answer lengths c ≡ o → NotDrawn lengths p c → record_of (of p (step o c held)) ≡ record_of (of p held)
+      go p c (Err f) e n = refl
+      go p (lay l) (Ok _) e n = laid_records p held (laid_held held.at_running held.at_next l.offset) refl
+      go p (lay_placed q) (Ok _) e n = laid_records p held (laid_placed held.at_running held.at_next) refl
+      go running (draw next corner d) (Ok _) e n = refl
+      go next (draw running corner d) (Ok _) e n = refl
+      go running (draw running corner d) (Ok _) e n = absurd (n corner d refl e)
+      go next (draw next corner d) (Ok _) e n = absurd (n corner d refl e)
 
   keeps_all : (p : Place) (cs : List Call) (held : Two Held) → NoneDrawn lengths p cs → record_of (of p (reckoned lengths cs held)) ≡ record_of (of p held)
   keeps_all p [] held n = refl
@@ -96,10 +96,10 @@ module _ (lengths : Two Lent) where
   first_record next = refl
 
   -- from the last done drawing on
-  given_last : (p : Place) (before : List Call) (corner : Corner) (d : Drawing) (after : List Call) (held : Two Held) → draw_answer d (of p lengths) ≡ Done
+  given_last : (p : Place) (before : List Call) (corner : Corner) (d : Drawing) (after : List Call) (held : Two Held) → draw_answer d (of p lengths) ≡ Ok tt
       → NoneDrawn lengths p after → record_of (of p (reckoned lengths (before ++ draw p corner d ∷ after) held)) ≡ record { size = d.size; corner = corner }
   given_last p [] corner d after held e n =
-      subst (λ (o : Outcome). record_of (of p (reckoned lengths after (step o (draw p corner d) held))) ≡ record { size = d.size; corner = corner }) (sym e)
+      subst (λ (o : Check). record_of (of p (reckoned lengths after (step o (draw p corner d) held))) ≡ record { size = d.size; corner = corner }) (sym e)
       (keeps_all p after (put p (drawn_held corner d) held) n ∙ drawn_record p held (drawn_held corner d))
   given_last p (c ∷ before) corner d after held e n = given_last p before corner d after (step (answer lengths c) c held) e n
 

@@ -2,7 +2,7 @@
 -- nothing.
 use mathlib.Core.Path.{◌≡◌, refl, sym, ap, ap₂, ◌∙◌}
 use mathlib.Core.List.{List, [], ◌∷◌}
-use Rattle.mask.specs.declared.Outcome.{Outcome}
+use Rattle.fault.specs.Check.{Check}
 use Rattle.mask.specs.Calls.{Drawing, draw_answer}
 use Rattle.reckoner.specs.Reckoner.{of, put, Call, draw, lay, lay_placed}
 use Rattle.reckoner.specs.Claim.{Buffers, lent_of, drawn_on, Scratch, ScratchFor, Scratches, given, answered, buffers_after, all_answered, buffers_after_all}
@@ -30,6 +30,6 @@ scratch_never_matters [] b s t = (refl, refl)
 scratch_never_matters (c ∷ cs) b s t =
     let h = scratch_never_matters cs (buffers_after b c s.0) s.1 t.1 in
     let e = one_after b c s.0 t.0 in (
-      ap₂ (λ (o : Outcome) (os : List Outcome). o ∷ os) (one_answer b c s.0 t.0) (h.0 ∙ ap (all_answered cs t.1) e),
+      ap₂ (λ (o : Check) (os : List Check). o ∷ os) (one_answer b c s.0 t.0) (h.0 ∙ ap (all_answered cs t.1) e),
       h.1 ∙ ap (buffers_after_all cs t.1) e,
     )

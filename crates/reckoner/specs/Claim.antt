@@ -11,7 +11,7 @@ use Rattle.ink.specs.Lent.{Lent, lent}
 use Rattle.ink.specs.Print.{PrintsTheMask}
 use Rattle.laying.specs.Laying.{Laying}
 use Rattle.laying.specs.Placed.{by_offset}
-use Rattle.mask.specs.declared.Outcome.{Outcome}
+use Rattle.fault.specs.Check.{Check}
 use Rattle.mask.specs.Calls.{Drawing, drawing, outcome_number, draw_answer, mask_after_drawing, lay_answer, mask_after_laying, lay_placed_answer, ink_after_call}
 use Rattle.mask.specs.Laws.{DrawNumber, LayNumber, LayPlacedNumber}
 use Rattle.reckoner.specs.Reckoner.{Place, running, Two, of, put, at_first, record_of, Call, draw, lay, lay_placed, answers, reckoned, Meant}
@@ -55,19 +55,19 @@ abbrev pub given : (d : Drawing) → Scratch d → Drawing
 given d s = drawing d.size d.words s.floats s.counters
 
 -- one call: its answer, and the buffers after it
-abbrev pub answered : Buffers → (c : Call) → ScratchFor c → Outcome
+abbrev pub answered : Buffers → (c : Call) → ScratchFor c → Check
 answered b (draw p corner d) s = draw_answer (given d s) (lent_of (of p b))
 answered b (lay l) s = lay_answer l (lent_of b.at_running) (length b.at_next.mask)
 answered b (lay_placed q) s = lay_placed_answer q (lent_of b.at_running) (length b.at_next.mask)
 
 -- a buffer after a call on a mask of this size that has this answer and leaves these bytes
-abbrev pub buffer_left : Outcome → Size → List ℕ → Buffer → Buffer
+abbrev pub buffer_left : Check → Size → List ℕ → Buffer → Buffer
 buffer_left o size mask b = record { mask = mask; ink = ink_after_call o size mask b.ink }
 
-abbrev pub drawn_on : Outcome → Drawing → Buffer → Buffer
+abbrev pub drawn_on : Check → Drawing → Buffer → Buffer
 drawn_on o d b = buffer_left o d.size (mask_after_drawing o d b.mask) b
 
-abbrev pub laid_on : Outcome → Laying → Buffers → Buffer
+abbrev pub laid_on : Check → Laying → Buffers → Buffer
 laid_on o l b = buffer_left o l.size (mask_after_laying o l b.at_running.mask b.at_next.mask) b.at_running
 
 abbrev pub buffers_after : Buffers → (c : Call) → ScratchFor c → Buffers
@@ -76,7 +76,7 @@ buffers_after b (lay l) s = put running (laid_on (answered b (lay l) s) l b) b
 buffers_after b (lay_placed q) s = put running (laid_on (answered b (lay_placed q) s) (by_offset q) b) b
 
 -- 'Each call gets what the last one left in them'
-abbrev pub all_answered : (cs : List Call) → Scratches cs → Buffers → List Outcome
+abbrev pub all_answered : (cs : List Call) → Scratches cs → Buffers → List Check
 all_answered [] s b = []
 all_answered (c ∷ cs) s b = answered b c s.0 ∷ all_answered cs s.1 (buffers_after b c s.0)
 
@@ -97,7 +97,7 @@ CallNumbers lengths [] (n ∷ ns) = ⊥
 CallNumbers lengths (c ∷ cs) [] = ⊥
 CallNumbers lengths (c ∷ cs) (n ∷ ns) = CallNumber lengths c n × CallNumbers lengths cs ns
 
-abbrev pub numbers : List Outcome → List ℕ
+abbrev pub numbers : List Check → List ℕ
 numbers [] = []
 numbers (o ∷ os) = outcome_number o ∷ numbers os
 

@@ -1,13 +1,12 @@
 -- Lists that draw at corners and lay by them are meant (document 02, change 8), and lists that lay by offsets alone are as
 -- before. Proved in proofs/Corners.antt.
-use Rattle.std.specs.Prelude.{◌≡◌, List, [], ◌∷◌, ℕ}
+use Rattle.std.specs.Prelude.{◌≡◌, List, [], ◌∷◌, ℕ, Ok}
 use Rattle.cells.specs.declared.Corner.{Corner}
 use Rattle.cells.specs.declared.MaskRecord.{MaskRecord}
 use Rattle.cells.specs.Corner.{CornerAllowed}
 use Rattle.laying.specs.Laying.{Laying}
 use Rattle.laying.specs.Placed.{placed}
-use Rattle.mask.specs.declared.Outcome.{Outcome}
-use Rattle.mask.specs.declared.Outcome.TheVariants.{Done}
+use Rattle.fault.specs.Check.{Check}
 use Rattle.ink.specs.Lent.{Lent}
 use Rattle.mask.specs.Calls.{Drawing}
 use Rattle.mask.specs.Laws.{CanDraw}
@@ -41,9 +40,9 @@ abbrev pub AllPlaced : Lent → List DrawingAt → Type 0
 AllPlaced lent [] = Unit {0}
 AllPlaced lent (f ∷ fs) = CanPlace lent f × AllPlaced lent fs
 
-abbrev pub AllDone : List Outcome → Type 0
+abbrev pub AllDone : List Check → Type 0
 AllDone [] = Unit {0}
-AllDone (o ∷ os) = (o ≡ Done) × AllDone os
+AllDone (o ∷ os) = (o ≡ Ok tt) × AllDone os
 
 -- whatever was held before, a card of such drawings is meant, and each of its calls is done
 pub record CardsAreMeant : Type 0 where

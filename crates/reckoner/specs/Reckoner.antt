@@ -3,7 +3,7 @@
 -- engine's definitions it takes the table of causes (mask/specs/Calls.antt), how a word list is read
 -- (word_list/specs/Words.antt) and the offset between two corners (laying/specs/Placed.antt); no float enters.
 -- Definitions only.
-use Rattle.std.specs.Prelude.{ℕ, ◌≡◌, cond, ◌&&◌, List, [], ◌∷◌, ltb, ℤ, pos, negsuc, ◌+ℤ◌}
+use Rattle.std.specs.Prelude.{ℕ, ◌≡◌, cond, ◌&&◌, List, [], ◌∷◌, ltb, ℤ, pos, negsuc, ◌+ℤ◌, Ok, Err}
 use Rattle.fraction.specs.Fraction.{Fraction, natᶠ, ◌/2^◌, ◌+ᶠ◌, ◌*ᶠ◌}
 use Rattle.word_list.specs.Words.{groups_of}
 use Rattle.winding.specs.Drawn.{drawn_share, allowed_difference}
@@ -14,8 +14,7 @@ use Rattle.cells.specs.Corner.{sheet_origin}
 use Rattle.laying.specs.declared.Offset.{Offset}
 use Rattle.laying.specs.Laying.{Laying}
 use Rattle.laying.specs.Placed.{Placed, offset_between}
-use Rattle.mask.specs.declared.Outcome.{Outcome}
-use Rattle.mask.specs.declared.Outcome.TheVariants.{Done, Refused}
+use Rattle.fault.specs.Check.{Check}
 use Rattle.ink.specs.Lent.{Lent}
 use Rattle.mask.specs.Calls.{Drawing, draw_answer, lay_answer, lay_placed_answer}
 
@@ -111,21 +110,21 @@ pub data Call : Type 0 where
   lay_placed : Placed → Call
 
 -- the answer that the table of causes and its order give, for mask buffers and ink of these lengths
-abbrev pub answer : Two Lent → Call → Outcome
+abbrev pub answer : Two Lent → Call → Check
 answer lengths (draw p corner d) = draw_answer d (of p lengths)
 answer lengths (lay l) = lay_answer l lengths.at_running lengths.at_next.mask
 answer lengths (lay_placed q) = lay_placed_answer q lengths.at_running lengths.at_next.mask
 
-abbrev pub answers : Two Lent → List Call → List Outcome
+abbrev pub answers : Two Lent → List Call → List Check
 answers lengths [] = []
 answers lengths (c ∷ cs) = answer lengths c ∷ answers lengths cs
 
 -- 'A call that the table of causes turns away changes nothing.' .. 'The next mask stays.'
-abbrev pub step : Outcome → Call → Two Held → Two Held
-step (Refused f) c held = held
-step Done (draw p corner d) held = put p (drawn_held corner d) held
-step Done (lay l) held = put running (laid_held held.at_running held.at_next l.offset) held
-step Done (lay_placed q) held = put running (laid_placed held.at_running held.at_next) held
+abbrev pub step : Check → Call → Two Held → Two Held
+step (Err f) c held = held
+step (Ok _) (draw p corner d) held = put p (drawn_held corner d) held
+step (Ok _) (lay l) held = put running (laid_held held.at_running held.at_next l.offset) held
+step (Ok _) (lay_placed q) held = put running (laid_placed held.at_running held.at_next) held
 
 abbrev pub reckoned : Two Lent → List Call → Two Held → Two Held
 reckoned lengths [] held = held
@@ -133,11 +132,11 @@ reckoned lengths (c ∷ cs) held = reckoned lengths cs (step (answer lengths c) 
 
 -- 'In the lists meant, a done laying-on is given the sizes held', and 'a done laying-on by corners is given the corners
 -- held'
-abbrev pub Given : Outcome → Call → Two Held → Type 0
-Given (Refused f) c held = Unit {0}
-Given Done (draw p corner d) held = Unit {0}
-Given Done (lay l) held = (l.size ≡ held.at_running.size) × (l.other_size ≡ held.at_next.size)
-Given Done (lay_placed q) held = (q.own ≡ record_of held.at_running) × (q.other ≡ record_of held.at_next)
+abbrev pub Given : Check → Call → Two Held → Type 0
+Given (Err f) c held = Unit {0}
+Given (Ok _) (draw p corner d) held = Unit {0}
+Given (Ok _) (lay l) held = (l.size ≡ held.at_running.size) × (l.other_size ≡ held.at_next.size)
+Given (Ok _) (lay_placed q) held = (q.own ≡ record_of held.at_running) × (q.other ≡ record_of held.at_next)
 
 abbrev pub Meant : Two Lent → List Call → Two Held → Type 0
 Meant lengths [] held = Unit {0}

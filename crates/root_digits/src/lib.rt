@@ -20,17 +20,15 @@ pub fn root_by_digits(a: u64, steps: u64) -> Root
     let mut left = a;
     let mut root: u64 = 0;
     let mut rest: u64 = 0;
-    let mut i: u64 = 0;
-    while i < steps {
+    for _step in 0..steps {
         rest = rest * 4 + left / 0x4000_0000_0000_0000;
         left = left % 0x4000_0000_0000_0000 * 4;
         let trial = root * 4 + 1;
-        root = root * 2;
+        root *= 2;
         if trial <= rest {
-            rest = rest - trial;
-            root = root + 1;
+            rest -= trial;
+            root += 1;
         }
-        i += 1;
     }
     Root { root, rest }
 }

@@ -1,5 +1,5 @@
--- What the proofs of `round_root`, `align`, `root_parts`, `root32`, `root64`, `sqrt` and `sqrt64` cite. Over the
--- width. Assumes nothing.
+-- What the proofs of `align`, `root_parts`, `root32`, `root64`, `sqrt` and `sqrt64` cite. Over the width.
+-- Assumes nothing.
 use mathlib.Core.Path.{◌≡◌, refl, sym, ap, ap₂, ◌∙◌, subst}
 use mathlib.Core.Logic.{inl, inr}
 use mathlib.Core.Bool.{Bool, true, false}
@@ -12,50 +12,23 @@ use borrow.Author.Tests.{ltb-true}
 use lib.Dec.{T, lt→ltb, lit≤}
 use lib.Count.{count_leading_zeros, leading_top}
 use lib.Pow.{pow-add, pow_pos, pow_mono, shl_lt, shl_exact}
-use lib.Ieee.{Float, nan, inf, fin, Format, prec, low, up, down, units, nearest, lt, eq}
-use lib.Ieee.Fits.{nearest-le}
+use lib.Ieee.{Float, nan, inf, fin, Format, prec, low, up, down, units, lt, eq}
 use lib.Ieee.Exact.{HasValue}
-use lib.Ieee.Nearest.{nearest-ge}
 use lib.Ieee.Positive.{num, den, positive, den_pos, first_pos, value_pos, own_value}
-use Rattle.roots.specs.Root.{sqrt_of, round_root}
+use Rattle.root_digits.specs.Root.{round_root}
+use Rattle.roots.specs.Root.{sqrt_of}
 use Rattle.float.specs.Parts.{Unpacked}
-use Rattle.roots.specs.Digits.{RootDigits, AlignedBy, RootParts, side_of_half, rounded_half}
+use Rattle.root_digits.specs.Digits.{RootDigits, rounded_half}
+use Rattle.roots.specs.Digits.{AlignedBy, RootParts}
 use Rattle.float.proofs.Pattern.{split}
 use Rattle.float.proofs.Tests.{never, zero_f, zero_level, not_level, zero_below, is_inf}
-use Rattle.roots.proofs.RootLoop.{double}
-use Rattle.roots.proofs.Roots.{root_by, root_lt, sq_next}
-
--- ---- `round_root`
-
-pub rounded_even : (r t : ℕ) → r % 2 ≡ 0 → r / 2 ≡ rounded_half r t
-rounded_even r t h = sym (ap (λ (b : ℕ). nearest (r / 2) (side_of_half b t)) h)
-
-one_left : (r : ℕ) → (r % 2 ≡ 0 → ⊥) → r % 2 ≡ 1
-one_left r h = omega arith
-
-pub rounded_tie : (r t : ℕ) → (r % 2 ≡ 0 → ⊥) → t ≡ 0 → r / 2 + r / 2 % 2 ≡ rounded_half r t
-rounded_tie r t h k = sym (ap (λ (b : ℕ). nearest (r / 2) (side_of_half b t)) (one_left r h) ∙ ap (λ (x : ℕ). nearest (r / 2) (side_of_half 1 x)) k)
-
-pub rounded_up : (r t : ℕ) → (r % 2 ≡ 0 → ⊥) → (t ≡ 0 → ⊥) → r / 2 + 1 ≡ rounded_half r t
-rounded_up r t h k =
-    let e : t ≡ suc (t - 1) = omega arith in
-    add-one (r / 2) ∙ sym (ap (λ (b : ℕ). nearest (r / 2) (side_of_half b t)) (one_left r h) ∙ ap (λ (x : ℕ). nearest (r / 2) (side_of_half 1 x)) e)
-
-pub rounded_le : (p r t : ℕ) → r < 2 ^ (p + 1) → rounded_half r t ≤ 2 ^ p
-rounded_le p r t h =
-    let e = double p in
-    let l : suc (r / 2) ≤ 2 ^ p = omega arith in
-    le_trans (nearest-le (r / 2) (side_of_half (r % 2) t)) l
-
-pub rounded_ge : (p r t : ℕ) → 2 ^ (p + 1) ≤ r → 2 ^ p ≤ rounded_half r t
-rounded_ge p r t h =
-    let e = double p in
-    let l : 2 ^ p ≤ r / 2 = omega arith in
-    le_trans l (nearest-ge (r / 2) (side_of_half (r % 2) t))
+use Rattle.root_digits.proofs.RootLoop.{double}
+use Rattle.root_digits.proofs.RootExtend.{at_least}
+use Rattle.root_digits.proofs.Roots.{root_by, with_rest}
 
 -- ---- a root by x's parts
 
-root_positive : (f : Format) (x : Float) → T (positive x) → sqrt_of f x ≡ round_root f (num x) (den x)
+pub root_positive : (f : Format) (x : Float) → T (positive x) → sqrt_of f x ≡ round_root f (num x) (den x)
 unfolding sqrt_of
 root_positive f nan p = absurd p
 root_positive f (inf s) p = absurd p
@@ -64,7 +37,7 @@ root_positive f (fin false zero e) p = absurd p
 root_positive f (fin false (suc m) e) p = refl
 
 module _ {f : Format} {x : Float} {s : Bool} {d e : ℕ} (a : Unpacked f x s d e) (p : T (positive x)) where
-  cross : num x * 2 ^ low f ≡ d * 2 ^ e * den x
+  pub cross : num x * 2 ^ low f ≡ d * 2 ^ e * den x
   cross = go x a.value
     where
       go : (x : Float) → HasValue x s (d * 2 ^ e) (2 ^ low f) → num x * 2 ^ low f ≡ d * 2 ^ e * den x
@@ -79,7 +52,9 @@ module _ {f : Format} {x : Float} {s : Bool} {d e : ℕ} (a : Unpacked f x s d e
 
   root_at : (k r t : ℕ) → d * 2 ^ e * 2 ^ low f * 4 ≡ (r * r + t) * (2 ^ k * 2 ^ k) → t ≤ 2 * r → 2 ^ prec f ≤ r → r < 2 ^ suc (prec f)
       → units f false (rounded_half r t) k ≡ sqrt_of f x
-  root_at k r t exact rest lo hi = sym (root_positive f x p ∙ root_by f (num x) (den x) k r t (den_pos x) same rest lo hi)
+  root_at k r t exact rest lo hi =
+      let u = mul-pos (den_pos x) (mul-pos (pow_pos k) (pow_pos k)) in
+      sym (root_positive f x p ∙ root_by f (num x) (den x) k r t (den_pos x) (with_rest (num x * (2 ^ low f * 2 ^ low f)) (den x * (2 ^ k * 2 ^ k)) r t u same rest) (inr lo) hi)
     where
       same : num x * (2 ^ low f * 2 ^ low f) * 4 ≡ (r * r + t) * (den x * (2 ^ k * 2 ^ k))
       same = omega (arith, ap (λ (z : ℕ). z * 2 ^ low f) cross, ap (λ (z : ℕ). z * den x) exact)
@@ -96,13 +71,6 @@ module _ {f : Format} {x : Float} {s : Bool} {d e : ℕ} (a : Unpacked f x s d e
           let j : e + bias + 2 * prec f + 2 ≡ e + low f + 66 = omega arith in
           let g = ap (λ (z : ℕ). d * z) (ap (λ (z : ℕ). 2 ^ z) j ∙ pow-add 2 (e + low f) 66 ∙ ap (λ (z : ℕ). z * 2 ^ 66) (pow-add 2 e (low f))) in
           eq_of_mul-eq-mul_right (2 ^ 64) (pow_pos 64) (d * 2 ^ e * 2 ^ low f * 4) (w * (2 ^ k * 2 ^ k)) (omega arith)
-
--- a root of a square that is no less than b's is no less than b
-root_ge : (b r t : ℕ) → b * b ≤ r * r + t → t ≤ 2 * r → b ≤ r
-root_ge b r t h k =
-    let s : (r + 1) * (r + 1) ≡ r * r + 2 * r + 1 = sq_next r in
-    let l : b < r + 1 = root_lt b (r + 1) (omega arith) in
-    omega arith
 
 -- ---- `align`
 
@@ -198,8 +166,12 @@ module _ (e p bias : ℕ) {d a y r t : ℕ} (al : AlignedBy d (e + bias) a y) (r
       let m : d * 2 ^ z ≡ w * 2 ^ 64 = ap (λ (x : ℕ). d * 2 ^ x) j ∙ ap (λ (x : ℕ). d * x) (pow-add 2 (z - 64) 64) ∙ sym (mul_assoc d (2 ^ (z - 64)) (2 ^ 64)) in
       ap (λ (x : ℕ). x * 2 ^ 64) (ro.square ∙ ap (λ (x : ℕ). x / 2 ^ 64) (in_pairs ∙ m) ∙ mul-div_cancel w (pow_pos 64)) ∙ sym m
 
-  at_least : 2 ^ p ≤ r
-  at_least = root_ge (2 ^ p) r t (let q = ro.square in let s = pairs in let g = mul-le-mul_right (h * h) al.high in omega arith) ro.left
+  full_root : 2 ^ p ≤ r
+  full_root =
+      let q = ro.square in
+      let s = pairs in
+      let g = mul-le-mul_right (h * h) al.high in
+      at_least r t (r * r + t) refl ro.left (2 ^ p) (omega arith)
 
   pub root_parts : 64 ≤ bias → e < 2 ^ 11 → bias < 2 ^ 11 → RootParts d e p bias (rounded_half r t) ((e + bias - y) / 2)
   root_parts B E F =
@@ -216,7 +188,7 @@ module _ (e p bias : ℕ) {d a y r t : ℕ} (al : AlignedBy d (e + bias) a y) (r
             ∙ mul_assoc d (2 ^ z) (2 ^ k * 2 ^ k)
             ∙ ap (λ (x : ℕ). d * x) (powers z k ∙ ap (λ (x : ℕ). 2 ^ x) j);
         left = ro.left;
-        high = at_least;
+        high = full_root;
         short = ro.short;
         exponent = omega arith;
       }

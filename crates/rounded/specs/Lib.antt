@@ -1,6 +1,4 @@
--- OnBox: how far points lie off the box. Turning: once around it. Rounded: the answer. Kept: what the code's parts
--- promise to each other.
+-- OnBox: how far points lie off the box. Turning: once around it. Rounded: the answer.
 pub mod OnBox
 pub mod Turning
 pub mod Rounded
-pub mod Kept

@@ -26,11 +26,10 @@ beside_of quadrant side = eqb quadrant side || eqb quadrant ((side + 1) % 4)
 abbrev pub no_radii : Radii
 no_radii = record { x = f0; y = f0 }
 
--- `corner_radii`; any other mix gives no box, whatever stands here for it
+-- `corner_radii`
 unfoldable pub radii_at_of : CornerMix → Around → Position → Radii
 radii_at_of (mix.Alike r) a p = r
 radii_at_of (mix.CutAt side r) a p = cond (beside_of (quadrant_of a p) side) no_radii r
-radii_at_of mix.Other a p = no_radii
 
 -- `radii[0] > 0.0 && corner[0] > 0.0 && corner[1] > 0.0`
 unfoldable pub at_corner_of : Radii → Position → Bool

@@ -1,6 +1,6 @@
 -- The box of an outline of lines and curves: shape.rs's `rounded`. `⊕ ⊖ ⊗ ⊘` are binary32's operations, and each rounds
 -- once. Definitions only.
-use Rattle.std.specs.Prelude.{cond, ◌&&◌, List, ℕ, eqb, Float}
+use Rattle.std.specs.Prelude.{cond, ◌&&◌, List, ℕ, eqb, Float, Option, Some, None}
 use Rattle.std.specs.Float.{binary32}
 use Rattle.std.specs.Float.Ieee.{of_bits}
 use Rattle.float.specs.Ops.{◌⊕◌, ◌⊗◌, f0, f½, f1, f_minus_1, f2}
@@ -17,7 +17,6 @@ use Rattle.corner_radii.specs.declared.CornerMix.TheVariants as mix
 use Rattle.corner_radii.specs.Around.{point_bounds_of, around_of, sized_of}
 use Rattle.corner_radii.specs.Mix.{corner_mix_of}
 use Rattle.rounded.specs.declared.Fitted.{Fitted}
-use Rattle.rounded.specs.declared.Fitted.TheVariants as fitted
 use Rattle.rounded.specs.OnBox.{no_radii, met_all_of}
 use Rattle.rounded.specs.Turning.{turned_of, once_of}
 
@@ -53,22 +52,23 @@ past_of side r a =
 
 -- `Some((shape, strays * 1.1, None))`, `Some((rounded, strays * 1.1, Some(cut)))`
 unfoldable pub boxed_of : CornerMix → Around → Float → Fitted
-boxed_of (mix.Alike r) a strays = fitted.Whole (box_of a r) (strays ⊗ strays_margin)
-boxed_of (mix.CutAt side r) a strays = fitted.Cut (past_of side r a) (strays ⊗ strays_margin) (box_of a no_radii)
-boxed_of mix.Other a strays = fitted.NoBox
+boxed_of (mix.Alike r) a strays = record { shape = box_of a r; strays = strays ⊗ strays_margin; cut = None }
+boxed_of (mix.CutAt side r) a strays =
+    record { shape = past_of side r a; strays = strays ⊗ strays_margin; cut = Some (box_of a no_radii) }
 
--- `if !(on_box && once) { return None; }`
-unfoldable pub fitted_of : Around → CornerMix → List Position → Fitted
-fitted_of a m outline =
+-- `if !(on_box && once) { return None; }`; any other mix is no box
+unfoldable pub fitted_of : Around → Option CornerMix → List Position → Option Fitted
+fitted_of a None outline = None
+fitted_of a (Some m) outline =
     let met = met_all_of m a outline in
-    cond (met.near && once_of (turned_of a outline)) (boxed_of m a met.strays) fitted.NoBox
+    cond (met.near && once_of (turned_of a outline)) (Some (boxed_of m a met.strays)) None
 
 -- of the outline's points and its anchors; `if !sized { return None; }`
-unfoldable pub rounded_by : List Position → List Position → Fitted
+unfoldable pub rounded_by : List Position → List Position → Option Fitted
 rounded_by outline anchors =
     let a = around_of (point_bounds_of outline) in
-    cond (sized_of a) (fitted_of a (corner_mix_of a anchors) outline) fitted.NoBox
+    cond (sized_of a) (fitted_of a (corner_mix_of a anchors) outline) None
 
 -- of a start and segments
-unfoldable pub rounded_of : Position → List Segment → Fitted
+unfoldable pub rounded_of : Position → List Segment → Option Fitted
 rounded_of start segments = rounded_by (outline_of start segments) (anchors_of start segments)

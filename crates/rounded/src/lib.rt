@@ -2,60 +2,47 @@
 // clip/shape.rs. Each contract gives the result outright, by a definition of specs/.
 #![tactic(auto)]
 
-ghost use Rattle.std.specs.Prelude.{◌≡◌, ◌&&◌, ◌||◌, ◌<◌, ◌≤◌};
-ghost use Rattle.outline.specs.Outline.{most_verbs, most_points};
-ghost use Rattle.outline.specs.Kept.{points_in, segments_in};
-ghost use Rattle.samples.specs.Samples.{most_samples};
+ghost use Rattle.std.specs.Prelude.{◌≡◌, ◌<◌, ◌≤◌, length};
+ghost use Rattle.outline.specs.Outline.{most_verbs};
 ghost use Rattle.rounded.specs.OnBox.{quadrant_of, beside_of, no_radii, radii_at_of, at_corner_of, corner_met_of, side_met_of, met_of, met_step_of, met_all_of};
-ghost use Rattle.rounded.specs.Turning.{angle_of, step_of, turned_by, turned_of, once_of};
+ghost use Rattle.rounded.specs.Turning.{angle_of, step_of, turned_by, no_turn, turned_of, once_of};
 ghost use Rattle.rounded.specs.Rounded.{box_of, side_x_of, side_y_of, past_of, boxed_of, fitted_of, rounded_by, rounded_of};
-ghost use Rattle.rounded.specs.Kept.{other_of};
 
-use corner_radii::{Around, CornerMix, FIT_TOLERANCE, Radii};
+use corner_radii::{Around, CornerMix, Radii};
 use geometry::{Position, Transform2D};
-use outline::{MOST_POINTS, MOST_SEGMENTS, Piece};
-use samples::MOST_SAMPLES;
+use outline::Segment;
 use shape::RoundedBox;
 
-// A box and how far the outline strays outside it; the same with the box that cuts it; or no box.
+// A box, how far the outline strays outside it, and where one side is square the box that cuts it.
 #[derive(Clone, Copy)]
-pub enum Fitted {
-    Whole(RoundedBox, f32),
-    Cut(RoundedBox, f32, RoundedBox),
-    NoBox,
+pub struct Fitted {
+    pub shape: RoundedBox,
+    pub strays: f32,
+    pub cut: Option<RoundedBox>,
 }
 
-fn both(a: bool, b: bool) -> bool
-    ensures { result ≡ (a && b) }
-{
-    a && b
-}
-
-fn either(a: bool, b: bool) -> bool
-    ensures { result ≡ (a || b) }
-{
-    a || b
+impl Fitted {
+    // The curve between two samples may reach a little further outside than they do.
+    const STRAYS_MARGIN: f32 = 1.1;
 }
 
 // ---- on the box
 
 // The corner whose quarter of the box a point lies in.
+#[tactic(auto, unfolding(crate::specs::OnBox::quadrant_of))]
 fn quadrant(a: Around, p: Position) -> usize
     ensures { result ≡ quadrant_of a p }
 {
-    if p.x >= a.cx {
-        if p.y >= a.cy {
-            return 0;
-        }
-        return 3;
+    match (p.x >= a.cx, p.y >= a.cy) {
+        (true, true) => 0,
+        (false, true) => 1,
+        (false, false) => 2,
+        (true, false) => 3,
     }
-    if p.y >= a.cy {
-        return 1;
-    }
-    2
 }
 
 // Whether a corner is one of a side's two.
+#[tactic(auto, unfolding(crate::specs::OnBox::beside_of))]
 fn beside(quadrant: usize, side: usize) -> bool
     ensures { result ≡ beside_of quadrant side }
 {
@@ -69,6 +56,7 @@ fn no_radii() -> Radii
 }
 
 // The radii of the corner that a point lies at.
+#[tactic(auto, unfolding(crate::specs::OnBox::radii_at_of))]
 fn radii_at(mix: CornerMix, a: Around, p: Position) -> Radii
     ensures { result ≡ radii_at_of mix a p }
 {
@@ -80,7 +68,6 @@ fn radii_at(mix: CornerMix, a: Around, p: Position) -> Radii
             }
             r
         }
-        CornerMix::Other => no_radii(),
     }
 }
 
@@ -99,6 +86,7 @@ fn at_corner(r: Radii, corner: Position) -> bool
     r.x > 0.0 && corner.x > 0.0 && corner.y > 0.0
 }
 
+#[tactic(auto, unfolding(crate::specs::OnBox::corner_met_of))]
 fn corner_met(r: Radii, corner: Position) -> Met
     ensures { result ≡ corner_met_of r corner }
 {
@@ -109,10 +97,11 @@ fn corner_met(r: Radii, corner: Position) -> Met
     let off = float::abs(k1 - 1.0);
     Met {
         strays: (k1 - 1.0) * k1 / slope,
-        near: off <= FIT_TOLERANCE,
+        near: off <= Around::FIT_TOLERANCE,
     }
 }
 
+#[tactic(auto, unfolding(crate::specs::OnBox::side_met_of))]
 fn side_met(sx: f32, sy: f32, slack: f32) -> Met
     ensures { result ≡ side_met_of sx sy slack }
 {
@@ -124,6 +113,7 @@ fn side_met(sx: f32, sy: f32, slack: f32) -> Met
     }
 }
 
+#[tactic(auto, unfolding(crate::specs::OnBox::met_of))]
 fn meets(mix: CornerMix, a: Around, p: Position) -> Met
     ensures { result ≡ met_of mix a p }
 {
@@ -141,36 +131,27 @@ fn meets(mix: CornerMix, a: Around, p: Position) -> Met
 }
 
 // With one point more.
+#[tactic(auto, unfolding(crate::specs::OnBox::met_step_of))]
 fn met_step(mix: CornerMix, a: Around, met: Met, p: Position) -> Met
     ensures { result ≡ met_step_of mix a met p }
 {
     let next = meets(mix, a, p);
     Met {
         strays: float::max(met.strays, next.strays),
-        near: both(met.near, next.near),
+        near: met.near && next.near,
     }
 }
 
-fn met_all(
-    xs: &[f32; MOST_SAMPLES],
-    ys: &[f32; MOST_SAMPLES],
-    n: usize,
-    mix: CornerMix,
-    a: Around,
-) -> Met
-    requires { n ≤ most_samples }
-    ensures { result ≡ met_all_of mix a (points_in xs.now ys.now n) }
+fn met_all(outline: &[Position], mix: CornerMix, a: Around) -> Met
+    ensures { result ≡ met_all_of mix a outline.now }
 {
-    let mut met = Met {
+    let none = Met {
         strays: 0.0,
         near: true,
     };
-    let mut i: usize = 0;
-    while i < n {
-        met = met_step(mix, a, met, samples::sample_at(xs, ys, i));
-        i += 1;
-    }
-    met
+    outline
+        .iter()
+        .fold(none, |met, p| met_step(mix, a, met, *p))
 }
 
 // ---- once around
@@ -178,12 +159,6 @@ fn met_all(
 const PI: f32 = 3.14159274;
 
 const TAU: f32 = 6.2831855;
-
-// A step below this size is no turn.
-const TURN_TOLERANCE: f32 = 1e-4;
-
-// How far from once around an outline may turn.
-const ONCE_TOLERANCE: f32 = 0.01;
 
 // How far an outline has turned, and whether any step of it went forward, and any backward.
 #[derive(Clone, Copy)]
@@ -193,6 +168,47 @@ pub struct Turn {
     pub backward: bool,
 }
 
+impl Turn {
+    // A step below this size is no turn.
+    const TOLERANCE: f32 = 1e-4;
+
+    // How far from once around an outline may turn.
+    const ONCE_TOLERANCE: f32 = 0.01;
+
+    fn none() -> Self
+        ensures { result ≡ no_turn }
+    {
+        Self {
+            turned: 0.0,
+            forward: false,
+            backward: false,
+        }
+    }
+
+    // With one step more.
+    #[tactic(auto, unfolding(crate::specs::Turning::turned_by))]
+    fn turned_by(self, s: f32) -> Self
+        ensures { result ≡ turned_by self s }
+    {
+        let forward = s > Self::TOLERANCE;
+        let backward = s < -Self::TOLERANCE;
+        Self {
+            turned: self.turned + s,
+            forward: self.forward || forward,
+            backward: self.backward || backward,
+        }
+    }
+
+    #[tactic(auto, unfolding(crate::specs::Turning::once_of))]
+    fn once(self) -> bool
+        ensures { result ≡ once_of self }
+    {
+        let one_way = !self.forward || !self.backward;
+        float::abs(float::abs(self.turned) - TAU) < Self::ONCE_TOLERANCE && one_way
+    }
+}
+
+#[tactic(auto, unfolding(crate::specs::Turning::angle_of))]
 fn angle(a: Around, p: Position) -> f32
     ensures { result ≡ angle_of a p }
 {
@@ -200,6 +216,7 @@ fn angle(a: Around, p: Position) -> f32
 }
 
 // From one angle to the next, the shorter way.
+#[tactic(auto, unfolding(crate::specs::Turning::step_of))]
 fn step(from: f32, to: f32) -> f32
     ensures { result ≡ step_of from to }
 {
@@ -213,50 +230,22 @@ fn step(from: f32, to: f32) -> f32
     s
 }
 
-fn turned_by(t: Turn, s: f32) -> Turn
-    ensures { result ≡ turned_by t s }
+// The turns from each point to the next.
+fn turned(outline: &[Position], a: Around) -> Turn
+    requires { 0 < length outline.now }
+    ensures { result ≡ turned_of a outline.now }
 {
-    let forward = s > TURN_TOLERANCE;
-    let backward = s < -TURN_TOLERANCE;
-    Turn {
-        turned: t.turned + s,
-        forward: either(t.forward, forward),
-        backward: either(t.backward, backward),
-    }
-}
-
-// The turns from each of n points to the next.
-fn turned(xs: &[f32; MOST_SAMPLES], ys: &[f32; MOST_SAMPLES], n: usize, a: Around) -> Turn
-    requires { (n ≤ most_samples) × (0 < n) }
-    ensures { result ≡ turned_of a (points_in xs.now ys.now n) }
-{
-    let mut t = Turn {
-        turned: 0.0,
-        forward: false,
-        backward: false,
-    };
-    let mut last = angle(a, samples::sample_at(xs, ys, 0));
-    let mut i: usize = 1;
-    while i < n {
-        let next = angle(a, samples::sample_at(xs, ys, i));
-        t = turned_by(t, step(last, next));
+    let mut t = Turn::none();
+    let mut last = angle(a, outline[0]);
+    for p in &outline[1..] {
+        let next = angle(a, *p);
+        t = t.turned_by(step(last, next));
         last = next;
-        i += 1;
     }
     t
 }
 
-fn once(t: Turn) -> bool
-    ensures { result ≡ once_of t }
-{
-    let one_way = either(!t.forward, !t.backward);
-    float::abs(float::abs(t.turned) - TAU) < ONCE_TOLERANCE && one_way
-}
-
 // ---- the answer
-
-// The curve between two samples may reach a little further outside than they do.
-const STRAYS_MARGIN: f32 = 1.1;
 
 fn box_of(a: Around, r: Radii) -> RoundedBox
     ensures { result ≡ box_of a r }
@@ -272,32 +261,31 @@ fn box_of(a: Around, r: Radii) -> RoundedBox
 }
 
 // The direction that a side faces.
+#[tactic(auto, unfolding(crate::specs::Rounded::side_x_of))]
 fn side_x(side: usize) -> f32
     ensures { result ≡ side_x_of side }
 {
-    if side == 1 {
-        return -1.0;
+    match side {
+        1 => -1.0,
+        3 => 1.0,
+        _ => 0.0,
     }
-    if side == 3 {
-        return 1.0;
-    }
-    0.0
 }
 
+#[tactic(auto, unfolding(crate::specs::Rounded::side_y_of))]
 fn side_y(side: usize) -> f32
     ensures { result ≡ side_y_of side }
 {
-    if side == 0 {
-        return 1.0;
+    match side {
+        0 => 1.0,
+        2 => -1.0,
+        _ => 0.0,
     }
-    if side == 2 {
-        return -1.0;
-    }
-    0.0
 }
 
 // The box that runs on past the square side by twice its radius there, so that its far corners lie
 // well outside the cut.
+#[tactic(auto, unfolding(crate::specs::Rounded::past_of))]
 fn past(side: usize, r: Radii, a: Around) -> RoundedBox
     ensures { result ≡ past_of side r a }
 {
@@ -315,84 +303,60 @@ fn past(side: usize, r: Radii, a: Around) -> RoundedBox
     }
 }
 
+#[tactic(auto, unfolding(crate::specs::Rounded::boxed_of))]
 fn boxed(mix: CornerMix, a: Around, strays: f32) -> Fitted
     ensures { result ≡ boxed_of mix a strays }
 {
+    let strays = strays * Fitted::STRAYS_MARGIN;
     match mix {
-        CornerMix::Alike(r) => Fitted::Whole(box_of(a, r), strays * STRAYS_MARGIN),
-        CornerMix::CutAt(side, r) => {
-            let cut = box_of(a, no_radii());
-            Fitted::Cut(past(side, r, a), strays * STRAYS_MARGIN, cut)
-        }
-        CornerMix::Other => Fitted::NoBox,
+        CornerMix::Alike(r) => Fitted {
+            shape: box_of(a, r),
+            strays,
+            cut: None,
+        },
+        CornerMix::CutAt(side, r) => Fitted {
+            shape: past(side, r, a),
+            strays,
+            cut: Some(box_of(a, no_radii())),
+        },
     }
 }
 
-fn other(mix: CornerMix) -> bool
-    ensures { result ≡ other_of mix }
+// The box of an outline with these corners, where all of its points are on it and they go around it once.
+#[tactic(auto, unfolding(crate::specs::Rounded::fitted_of))]
+fn fit_on(outline: &[Position], a: Around, mix: CornerMix) -> Option<Fitted>
+    requires { 0 < length outline.now }
+    ensures { result ≡ fitted_of a (Some mix) outline.now }
 {
-    match mix {
-        CornerMix::Alike(_) => false,
-        CornerMix::CutAt(_, _) => false,
-        CornerMix::Other => true,
+    let met = met_all(outline, mix, a);
+    if met.near && turned(outline, a).once() {
+        return Some(boxed(mix, a, met.strays));
     }
+    None
 }
 
-// The box of n points with these corners, where all are on it and they go around it once.
-#[tactic(auto, unfolding(crate::specs::Rounded::boxed_of, crate::specs::Rounded::fitted_of))]
-fn fit_on(
-    xs: &[f32; MOST_SAMPLES],
-    ys: &[f32; MOST_SAMPLES],
-    n: usize,
-    a: Around,
-    mix: CornerMix,
-) -> Fitted
-    requires { (n ≤ most_samples) × (0 < n) }
-    ensures { result ≡ fitted_of a mix (points_in xs.now ys.now n) }
+// The box of an outline, with its anchors.
+#[tactic(auto, unfolding(crate::specs::Rounded::rounded_by, crate::specs::Rounded::fitted_of))]
+fn rounded_points(outline: &[Position], anchors: &[Position]) -> Option<Fitted>
+    requires { 0 < length outline.now }
+    ensures { result ≡ rounded_by outline.now anchors.now }
 {
-    if other(mix) {
-        return Fitted::NoBox;
-    }
-    let met = met_all(xs, ys, n, mix, a);
-    if met.near && once(turned(xs, ys, n, a)) {
-        return boxed(mix, a, met.strays);
-    }
-    Fitted::NoBox
-}
-
-// The box of an outline of n points, with m anchors.
-#[tactic(auto, unfolding(crate::specs::Rounded::rounded_by))]
-fn rounded_points(
-    xs: &[f32; MOST_SAMPLES],
-    ys: &[f32; MOST_SAMPLES],
-    n: usize,
-    axs: &[f32; MOST_POINTS],
-    ays: &[f32; MOST_POINTS],
-    m: usize,
-) -> Fitted
-    requires { (n ≤ most_samples) × (0 < n) × (m ≤ most_points) }
-    ensures { result ≡ rounded_by (points_in xs.now ys.now n) (points_in axs.now ays.now m) }
-{
-    let a = Around::of(corner_radii::bounds(xs, ys, n));
+    let a = Around::of(corner_radii::bounds(outline));
     if !a.sized() {
-        return Fitted::NoBox;
+        return None;
     }
-    let mix = corner_radii::corner_mix(axs, ays, m, a);
-    fit_on(xs, ys, n, a, mix)
+    let mix = corner_radii::corner_mix(anchors, a)?;
+    fit_on(outline, a, mix)
 }
 
 // The box of a start and segments, its strays, and the box that cuts it where one side is square.
 // Ruled out: a box for an outline that goes around twice; the cut box grown with the rounded one.
 #[tactic(auto, unfolding(crate::specs::Rounded::rounded_of))]
-pub fn rounded(start: Position, pieces: [Piece; MOST_SEGMENTS], count: usize) -> Fitted
-    requires { count ≤ most_verbs }
-    ensures { result ≡ rounded_of start (segments_in pieces count) }
+pub fn rounded(start: Position, segments: &[Segment]) -> Option<Fitted>
+    requires { length segments.now ≤ most_verbs }
+    ensures { result ≡ rounded_of start segments.now }
 {
-    let mut xs = [0.0f32; MOST_SAMPLES];
-    let mut ys = [0.0f32; MOST_SAMPLES];
-    let mut axs = [0.0f32; MOST_POINTS];
-    let mut ays = [0.0f32; MOST_POINTS];
-    let n = samples::outline_points(start, pieces, count, &mut xs, &mut ys);
-    samples::anchors(start, pieces, count, &mut axs, &mut ays);
-    rounded_points(&xs, &ys, n, &axs, &ays, count + 1)
+    let outline = samples::outline_points(start, segments);
+    let anchors = samples::anchors(start, segments);
+    rounded_points(&outline, &anchors)
 }

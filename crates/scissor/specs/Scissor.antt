@@ -1,41 +1,34 @@
 -- A clip and a scissor, as shape.rs computes them. `⊕ ⊖ ⊗` are binary32's operations, and each rounds once. Definitions
 -- only.
-use Rattle.std.specs.Prelude.{Bool, cond, not, ◌||◌, Float}
+use Rattle.std.specs.Prelude.{Bool, cond, not, ◌||◌, Float, Option, Some, None}
 use Rattle.std.specs.Float.Ieee.{neg, le}
 use Rattle.float.specs.Ops.{◌⊕◌, ◌⊖◌, ◌⊗◌, f2}
 use Rattle.geometry.specs.declared.Position.{Position}
 use Rattle.geometry.specs.Frame.{inverse_of}
 use Rattle.shape.specs.declared.RoundedBox.{RoundedBox}
-use Rattle.shape.specs.declared.MaybeBox.{MaybeBox}
-use Rattle.shape.specs.declared.MaybeBox.TheVariants as maybe
 use Rattle.clip_coverage.specs.Limits.{draw_slack}
-use Rattle.covering.specs.declared.MaybeCoverage.{MaybeCoverage}
-use Rattle.covering.specs.declared.MaybeCoverage.TheVariants as coverage
 use Rattle.covering.specs.Coverage.{per_fringe_of, coverage_of}
 use Rattle.beside.specs.declared.Placed.{Placed}
-use Rattle.beside.specs.declared.MaybePlaced.{MaybePlaced}
-use Rattle.beside.specs.declared.MaybePlaced.TheVariants as alongside
 use Rattle.beside.specs.Alongside.{alongside_of}
 use Rattle.sides.specs.declared.Sides.{Sides}
 use Rattle.sides.specs.Shared.{square_of, between_of}
 use Rattle.overlap.specs.Overlap.{intersection_within_of}
 use Rattle.scissor.specs.declared.Axis.{Axis}
-use Rattle.scissor.specs.declared.MaybeBoth.{MaybeBoth}
-use Rattle.scissor.specs.declared.MaybeBoth.TheVariants as both
+use Rattle.clip_coverage.specs.declared.ClipCoverage.{ClipCoverage}
 
 -- ---- RoundedBox::with_scissor
 
 -- `Some((both, both.coverage(fringe_width)?))`
-abbrev pub both_by : RoundedBox → MaybeCoverage → MaybeBoth
-both_by b (coverage.Coverage k) = both.Both b k
-both_by b coverage.NoCoverage = both.NoBox
+abbrev pub both_by : RoundedBox → Option ClipCoverage → Option (RoundedBox × ClipCoverage)
+both_by b (Some k) = Some (b, k)
+both_by b None = None
 
 -- `both`
-abbrev pub covered_by : MaybeBox → Float → MaybeBoth
-covered_by (maybe.Box b) fringe = both_by b (coverage_of b fringe)
-covered_by maybe.NoBox fringe = both.NoBox
+abbrev pub covered_by : Option RoundedBox → Float → Option (RoundedBox × ClipCoverage)
+covered_by (Some b) fringe = both_by b (coverage_of b fringe)
+covered_by None fringe = None
 
-unfoldable pub with_scissor_of : RoundedBox → RoundedBox → Float → MaybeBoth
+unfoldable pub with_scissor_of : RoundedBox → RoundedBox → Float → Option (RoundedBox × ClipCoverage)
 with_scissor_of clip s fringe = covered_by (intersection_within_of clip s fringe draw_slack) fringe
 
 -- ---- RoundedBox::trimmed_scissor
@@ -70,13 +63,13 @@ trimmed_sides_of x y = record { lowx = low_of x; lowy = low_of y; highx = high_o
 
 -- `cuts.then(..)`. Document 02, change 1: 'A trim can come out with a negative half extent when window and picture lie
 -- apart. The Rust returns it, so we do too'
-unfoldable pub trim_of : RoundedBox → Axis → Axis → MaybeBox
-trim_of s x y = cond (cuts_of x || cuts_of y) (maybe.Box (between_of s (trimmed_sides_of x y))) maybe.NoBox
+unfoldable pub trim_of : RoundedBox → Axis → Axis → Option RoundedBox
+trim_of s x y = cond (cuts_of x || cuts_of y) (Some (between_of s (trimmed_sides_of x y))) None
 
 -- 'the scissor as it is when its corners are round or its sides are not parallel to this box's'
-abbrev pub trim_by : RoundedBox → MaybePlaced → Position → MaybeBox
-trim_by s (alongside.Placed p) per = cond (square_of s) (trim_of s (x_axis_of s p per) (y_axis_of s p per)) (maybe.Box s)
-trim_by s alongside.NotParallel per = maybe.Box s
+abbrev pub trim_by : RoundedBox → Option Placed → Position → Option RoundedBox
+trim_by s (Some p) per = cond (square_of s) (trim_of s (x_axis_of s p per) (y_axis_of s p per)) (Some s)
+trim_by s None per = Some s
 
-unfoldable pub trimmed_scissor_of : RoundedBox → RoundedBox → Float → MaybeBox
+unfoldable pub trimmed_scissor_of : RoundedBox → RoundedBox → Float → Option RoundedBox
 trimmed_scissor_of clip s fringe = trim_by s (alongside_of s clip) (per_fringe_of (inverse_of s.frame) fringe)

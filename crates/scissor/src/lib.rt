@@ -8,67 +8,43 @@
 ghost use Rattle.std.specs.Prelude.{◌≡◌};
 ghost use Rattle.scissor.specs.Scissor.{with_scissor_of, x_axis_of, y_axis_of, within_low_of, within_high_of, low_of, high_of, cuts_of};
 ghost use Rattle.scissor.specs.Scissor.{trimmed_sides_of, trim_of, trimmed_scissor_of};
-ghost use Rattle.scissor.specs.Calls.{scissor_answer, with_scissor_call, trimmed_scissor_call};
+ghost use Rattle.scissor.specs.Calls.{with_scissor_call, trimmed_scissor_call};
 
-use beside::{MaybePlaced, Placed};
+use beside::Placed;
 use clip_coverage::ClipCoverage;
-use covering::MaybeCoverage;
-use fault::{Check, Fault};
+use fault::Fault;
 use geometry::Position;
-use shape::{BoxAnswer, MaybeBox, RoundedBox};
+use shape::RoundedBox;
 use sides::Sides;
-
-// The Rust's Option<(RoundedBox, ClipCoverage)>.
-#[derive(Clone, Copy)]
-pub enum MaybeBoth {
-    Both(RoundedBox, ClipCoverage),
-    NoBox,
-}
-
-#[derive(Clone, Copy)]
-pub enum ScissorAnswer {
-    Both(RoundedBox, ClipCoverage),
-    NoBox,
-    Refused(Fault),
-}
-
-impl MaybeBoth {
-    fn answer(self) -> ScissorAnswer
-        ensures { result ≡ scissor_answer self }
-    {
-        let MaybeBoth::Both(both, coverage) = self else {
-            return ScissorAnswer::NoBox;
-        };
-        ScissorAnswer::Both(both, coverage)
-    }
-}
 
 // ---- with_scissor
 
-pub fn with_scissor_unchecked(clip: RoundedBox, scissor: RoundedBox, fringe: f32) -> MaybeBoth
+#[tactic(auto, unfolding(crate::specs::Scissor::with_scissor_of))]
+pub fn with_scissor_unchecked(
+    clip: RoundedBox,
+    scissor: RoundedBox,
+    fringe: f32,
+) -> Option<(RoundedBox, ClipCoverage)>
     ensures { result ≡ with_scissor_of clip scissor fringe }
 {
     let slack = ClipCoverage::DRAW_SLACK;
-    let MaybeBox::Box(both) = overlap::intersection_within_unchecked(clip, scissor, fringe, slack)
-    else {
-        return MaybeBoth::NoBox;
-    };
-    let MaybeCoverage::Coverage(coverage) = covering::coverage_unchecked(both, fringe) else {
-        return MaybeBoth::NoBox;
-    };
-    MaybeBoth::Both(both, coverage)
+    let both = overlap::intersection_within_unchecked(clip, scissor, fringe, slack)?;
+    let coverage = covering::coverage_unchecked(both, fringe)?;
+    Some((both, coverage))
 }
 
 // A clip and a scissor as the one box, within DRAW_SLACK, and its coverage that draws under both carry in
 // place of the two.
 // Ruled out: the slack of `intersection`, half a fringe width; a box that has no coverage.
-pub fn with_scissor(clip: RoundedBox, scissor: RoundedBox, fringe: f32) -> ScissorAnswer
+pub fn with_scissor(
+    clip: RoundedBox,
+    scissor: RoundedBox,
+    fringe: f32,
+) -> Result<Option<(RoundedBox, ClipCoverage)>, Fault>
     ensures { result ≡ with_scissor_call clip scissor fringe }
 {
-    if let Check::Refused(fault) = beside::pair_fringe_check(clip, scissor, fringe) {
-        return ScissorAnswer::Refused(fault);
-    }
-    with_scissor_unchecked(clip, scissor, fringe).answer()
+    beside::pair_fringe_check(clip, scissor, fringe)?;
+    Ok(with_scissor_unchecked(clip, scissor, fringe))
 }
 
 // ---- one axis of a box, and of another that is placed in its frame
@@ -111,6 +87,7 @@ impl Axis {
     }
 
     // Whether the other box lies within the low side, and within the high one, to DRAW_SLACK.
+    #[tactic(auto, unfolding(crate::specs::Scissor::within_low_of))]
     fn within_low(self) -> bool
         ensures { result ≡ within_low_of self }
     {
@@ -118,6 +95,7 @@ impl Axis {
         -self.extent <= self.centre - self.half + slack
     }
 
+    #[tactic(auto, unfolding(crate::specs::Scissor::within_high_of))]
     fn within_high(self) -> bool
         ensures { result ≡ within_high_of self }
     {
@@ -126,6 +104,7 @@ impl Axis {
     }
 
     // Each side: moved out past the other box where that lies within it, and else as it was.
+    #[tactic(auto, unfolding(crate::specs::Scissor::low_of))]
     fn low(self) -> f32
         ensures { result ≡ low_of self }
     {
@@ -135,6 +114,7 @@ impl Axis {
         -self.extent
     }
 
+    #[tactic(auto, unfolding(crate::specs::Scissor::high_of))]
     fn high(self) -> f32
         ensures { result ≡ high_of self }
     {
@@ -145,6 +125,7 @@ impl Axis {
     }
 
     // Whether a side still clips.
+    #[tactic(auto, unfolding(crate::specs::Scissor::cuts_of))]
     fn cuts(self) -> bool
         ensures { result ≡ cuts_of self }
     {
@@ -154,6 +135,7 @@ impl Axis {
 
 // ---- trimmed_scissor
 
+#[tactic(auto, unfolding(crate::specs::Scissor::trimmed_sides_of))]
 fn trimmed_sides(x: Axis, y: Axis) -> Sides
     ensures { result ≡ trimmed_sides_of x y }
 {
@@ -167,24 +149,28 @@ fn trimmed_sides(x: Axis, y: Axis) -> Sides
 
 // The scissor with its sides trimmed, where one of them still clips.
 #[tactic(auto, unfolding(crate::specs::Scissor::trim_of))]
-fn trim(scissor: RoundedBox, x: Axis, y: Axis) -> MaybeBox
+fn trim(scissor: RoundedBox, x: Axis, y: Axis) -> Option<RoundedBox>
     ensures { result ≡ trim_of scissor x y }
 {
     if x.cuts() || y.cuts() {
-        return MaybeBox::Box(sides::between(scissor, trimmed_sides(x, y)));
+        return Some(sides::between(scissor, trimmed_sides(x, y)));
     }
-    MaybeBox::NoBox
+    None
 }
 
 #[tactic(auto, unfolding(crate::specs::Scissor::trimmed_scissor_of))]
-fn trimmed_scissor_unchecked(clip: RoundedBox, scissor: RoundedBox, fringe: f32) -> MaybeBox
+fn trimmed_scissor_unchecked(
+    clip: RoundedBox,
+    scissor: RoundedBox,
+    fringe: f32,
+) -> Option<RoundedBox>
     ensures { result ≡ trimmed_scissor_of clip scissor fringe }
 {
-    let MaybePlaced::Placed(p) = beside::alongside(scissor, clip) else {
-        return MaybeBox::Box(scissor);
+    let Some(p) = beside::alongside(scissor, clip) else {
+        return Some(scissor);
     };
     if !sides::square(scissor) {
-        return MaybeBox::Box(scissor);
+        return Some(scissor);
     }
     let frame = scissor.frame;
     let per_fringe = covering::per_fringe(frame.inverse(), fringe);
@@ -199,11 +185,13 @@ fn trimmed_scissor_unchecked(clip: RoundedBox, scissor: RoundedBox, fringe: f32)
 // past it. None when the clip lies within all four; the scissor as it is when its corners are round or
 // its sides are not parallel to the clip's. Where the two lie apart a half extent may be below 0.
 // Ruled out: no box, or a half extent of 0, where the two lie apart; a trim by the clip's own fringe.
-pub fn trimmed_scissor(clip: RoundedBox, scissor: RoundedBox, fringe: f32) -> BoxAnswer
+pub fn trimmed_scissor(
+    clip: RoundedBox,
+    scissor: RoundedBox,
+    fringe: f32,
+) -> Result<Option<RoundedBox>, Fault>
     ensures { result ≡ trimmed_scissor_call clip scissor fringe }
 {
-    if let Check::Refused(fault) = beside::pair_fringe_check(clip, scissor, fringe) {
-        return BoxAnswer::Refused(fault);
-    }
-    trimmed_scissor_unchecked(clip, scissor, fringe).answer()
+    beside::pair_fringe_check(clip, scissor, fringe)?;
+    Ok(trimmed_scissor_unchecked(clip, scissor, fringe))
 }

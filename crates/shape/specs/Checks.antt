@@ -1,13 +1,11 @@
 -- What the box calls refuse, and in which order. Definitions only.
-use Rattle.std.specs.Prelude.{Bool, cond, ◌&&◌, ◌||◌, Float}
+use Rattle.std.specs.Prelude.{Bool, cond, Ok, Err, ◌&&◌, ◌||◌, Float}
 use Rattle.std.specs.Float.Ieee.{lt, le}
 use Rattle.std.specs.Float.Ieee.Scale.{finite}
 use Rattle.float.specs.Ops.{f0}
 use Rattle.float.specs.Simple.{abs_of}
 use Rattle.fault.specs.declared.Fault.TheVariants as fault
-use Rattle.fault.specs.declared.Check.{Check}
-use Rattle.fault.specs.declared.Check.TheVariants as check
-use Rattle.fault.specs.Check.{unless_of}
+use Rattle.fault.specs.Check.{Check, unless_of}
 use Rattle.geometry.specs.declared.Transform2D.{Transform2D}
 use Rattle.geometry.specs.declared.Position.{Position}
 use Rattle.shape.specs.declared.RoundedBox.{RoundedBox}
@@ -35,7 +33,7 @@ improper_of b = improper_side_of b.ex b.rx || improper_side_of b.ey b.ry
 
 -- Document 01: 'per box 1, 2'
 unfoldable pub box_check_of : RoundedBox → Check
-box_check_of b = cond (box_in_range_of b) (cond (improper_of b) (check.Refused fault.ImproperBox) check.Pass) (check.Refused fault.NumberOutOfRange)
+box_check_of b = cond (box_in_range_of b) (cond (improper_of b) (Err fault.ImproperBox) (Ok tt)) (Err fault.NumberOutOfRange)
 
 -- Document 01: '1 for a lone frame, fringe and point'
 abbrev pub numbers_check_of : Bool → Check

@@ -1,6 +1,6 @@
 -- A box's corners and the points of its outline, as shape.rs computes them. `⊕ ⊖ ⊗ ⊘` are binary32's operations, and
 -- each rounds once. Definitions only.
-use Rattle.std.specs.Prelude.{Bool, true, ◌&&◌, List, [], ◌∷◌, ℕ, zero, suc, ◌/◌, ◌%◌, get_or, Float}
+use Rattle.std.specs.Prelude.{◌≡◌, Bool, true, ◌&&◌, List, [], ◌∷◌, ℕ, zero, suc, ◌/◌, ◌%◌, get_or, Float}
 use Rattle.std.specs.Float.{nan, binary32}
 use Rattle.std.specs.Float.Ieee.{of_bits}
 use Rattle.float.specs.Ops.{◌⊖◌, ◌⊗◌, f1, f_minus_1}
@@ -58,3 +58,7 @@ outline_point_of b i =
 unfoldable pub all_below : (ℕ → Bool) → ℕ → Bool
 all_below test zero = true
 all_below test (suc n) = all_below test n && test n
+
+-- what a function answers of each point is what the test says
+abbrev pub TellsPoint : (Position → Bool → Type 0) → (Position → Bool) → Type 0
+TellsPoint Answers test = (p : Position) (r : Bool) → Answers p r → r ≡ test p

@@ -5,11 +5,12 @@
 // outright, by a definition of specs/.
 #![tactic(auto)]
 
-ghost use Rattle.std.specs.Prelude.{◌≡◌, ◌&&◌, ◌<◌};
+ghost use Rattle.std.specs.Prelude.{◌≡◌, ◌&&◌, ◌<◌, Bool};
+ghost use Rattle.geometry.specs.declared.Position.{Position};
 ghost use Rattle.shape.specs.Checks.{in_range_of, both_in_range_of, frame_in_range_of, box_in_range_of, improper_side_of, improper_of};
 ghost use Rattle.shape.specs.Checks.{box_check_of, numbers_check_of, frame_check_of, fringe_check_of, point_check_of};
-ghost use Rattle.shape.specs.Outline.{transformed_of, corner_at_of, bounds_of, outline_point_of};
-ghost use Rattle.shape.specs.Calls.{box_answer, transformed_call, bounds_call};
+ghost use Rattle.shape.specs.Outline.{transformed_of, corner_at_of, bounds_of, outline_point_of, all_below, TellsPoint};
+ghost use Rattle.shape.specs.Calls.{transformed_call, bounds_call};
 
 use fault::{Check, Fault};
 use geometry::{Bounds, Position, Transform2D};
@@ -30,45 +31,6 @@ pub struct RoundedBox {
     pub ry: f32,
 }
 
-// The Rust's Option<RoundedBox>.
-#[derive(Clone, Copy)]
-pub enum MaybeBox {
-    Box(RoundedBox),
-    NoBox,
-}
-
-// ---- answers
-
-#[derive(Clone, Copy)]
-pub enum BoxAnswer {
-    Box(RoundedBox),
-    NoBox,
-    Refused(Fault),
-}
-
-#[derive(Clone, Copy)]
-pub enum BoundsAnswer {
-    Bounds(Bounds),
-    Refused(Fault),
-}
-
-#[derive(Clone, Copy)]
-pub enum TestAnswer {
-    Done(bool),
-    Refused(Fault),
-}
-
-impl MaybeBox {
-    pub fn answer(self) -> BoxAnswer
-        ensures { result ≡ box_answer self }
-    {
-        let MaybeBox::Box(b) = self else {
-            return BoxAnswer::NoBox;
-        };
-        BoxAnswer::Box(b)
-    }
-}
-
 // ---- refusals
 
 pub fn number_in_range(x: f32) -> bool
@@ -83,28 +45,22 @@ fn both_in_range(x: f32, y: f32) -> bool
     number_in_range(x) && number_in_range(y)
 }
 
-// Whether all of three tests pass.
-fn all_of(a: bool, b: bool, c: bool) -> bool
-    ensures { result ≡ (a && (b && c)) }
-{
-    a && b && c
-}
-
+#[tactic(auto, unfolding(crate::specs::Checks::frame_in_range_of))]
 fn frame_in_range(t: Transform2D) -> bool
     ensures { result ≡ frame_in_range_of t }
 {
-    all_of(
-        both_in_range(t.a, t.b),
-        both_in_range(t.c, t.d),
-        both_in_range(t.x, t.y),
-    )
+    both_in_range(t.a, t.b) && both_in_range(t.c, t.d) && both_in_range(t.x, t.y)
 }
 
 // The check of numbers of which `good` tells whether all are in range.
 pub fn numbers_check(good: bool) -> Check
     ensures { result ≡ numbers_check_of good }
 {
-    Check::unless(good, Fault::NumberOutOfRange)
+    if good {
+        Ok(())
+    } else {
+        Err(Fault::NumberOutOfRange)
+    }
 }
 
 pub fn frame_check(t: Transform2D) -> Check
@@ -129,15 +85,13 @@ impl RoundedBox {
     // The largest size of a number.
     const LARGEST_NUMBER: f32 = 1048576.0;
 
+    #[tactic(auto, unfolding(crate::specs::Checks::box_in_range_of))]
     fn in_range(self) -> bool
         ensures { result ≡ box_in_range_of self }
     {
-        let frame = self.frame;
-        all_of(
-            frame_in_range(frame),
-            both_in_range(self.ex, self.ey),
-            both_in_range(self.rx, self.ry),
-        )
+        frame_in_range(self.frame)
+            && both_in_range(self.ex, self.ey)
+            && both_in_range(self.rx, self.ry)
     }
 
     // Whether a half extent or its radius is below 0, or the radius over the extent.
@@ -155,16 +109,17 @@ impl RoundedBox {
     }
 
     // Document 01's causes for a box: number 1 before number 2.
+    #[tactic(auto, unfolding(crate::specs::Checks::box_check_of))]
     pub fn check(self) -> Check
         ensures { result ≡ box_check_of self }
     {
-        if self.in_range() {
-            if self.improper() {
-                return Check::Refused(Fault::ImproperBox);
-            }
-            return Check::Pass;
+        if !self.in_range() {
+            return Err(Fault::NumberOutOfRange);
         }
-        Check::Refused(Fault::NumberOutOfRange)
+        if self.improper() {
+            return Err(Fault::ImproperBox);
+        }
+        Ok(())
     }
 
     // ---- transformed
@@ -176,22 +131,18 @@ impl RoundedBox {
         let carried = frame.mul(transform);
         Self {
             frame: carried,
-            ex: self.ex,
-            ey: self.ey,
-            rx: self.rx,
-            ry: self.ry,
+            ..self
         }
     }
 
     // The box under `transform`: its frame carried along.
     // Ruled out: the product turned round; the half extents scaled with the frame.
-    pub fn transformed(self, transform: Transform2D) -> BoxAnswer
+    pub fn transformed(self, transform: Transform2D) -> Result<Self, Fault>
         ensures { result ≡ transformed_call self transform }
     {
-        if let Check::Refused(fault) = self.check().and_then(frame_check(transform)) {
-            return BoxAnswer::Refused(fault);
-        }
-        BoxAnswer::Box(self.transformed_unchecked(transform))
+        self.check()?;
+        frame_check(transform)?;
+        Ok(self.transformed_unchecked(transform))
     }
 
     // ---- bounds
@@ -217,13 +168,11 @@ impl RoundedBox {
     // The rectangle that the corners span.
     // Ruled out: bounds of two opposite corners alone; the corners in another order, which shows at
     // zeros of either sign.
-    pub fn bounds(self) -> BoundsAnswer
+    pub fn bounds(self) -> Result<Bounds, Fault>
         ensures { result ≡ bounds_call self }
     {
-        if let Check::Refused(fault) = self.check() {
-            return BoundsAnswer::Refused(fault);
-        }
-        BoundsAnswer::Bounds(self.bounds_unchecked())
+        self.check()?;
+        Ok(self.bounds_unchecked())
     }
 
     // ---- the outline
@@ -273,5 +222,18 @@ impl RoundedBox {
         let y = self.ey - self.ry * (1.0 - sin);
         let frame = self.frame;
         frame.transform_point(x * sx, y * sy)
+    }
+
+    // Whether every point of the outline passes a test.
+    pub fn every_outline_point<F: Fn(Position) -> bool>(self, passes: F) -> bool
+        requires { F.IsAlwaysCallable passes }
+        ensures { (test : Position → Bool) → TellsPoint (F.post passes) test → result ≡ all_below (λ i. test (outline_point_of self i)) 36 }
+    {
+        for i in 0..36 {
+            if !passes(self.outline_point(i)) {
+                return false;
+            }
+        }
+        true
     }
 }

@@ -1,16 +1,12 @@
 -- What two boxes with parallel sides share, and what two square ones both cover, as shape.rs computes it. `⊕ ⊖ ⊗ ⊘` are
 -- binary32's operations, and each rounds once. Definitions only.
-use Rattle.std.specs.Prelude.{Bool, cond, ◌&&◌, ◌||◌}
+use Rattle.std.specs.Prelude.{Bool, cond, ◌&&◌, ◌||◌, Option, Some, None}
 use Rattle.std.specs.Float.Ieee.{neg, le, eq}
 use Rattle.float.specs.Ops.{◌⊕◌, ◌⊖◌, ◌⊗◌, f0, f½}
 use Rattle.float.specs.Simple.{min_of, max_of}
 use Rattle.geometry.specs.Frame.{product_of, translation_of}
 use Rattle.shape.specs.declared.RoundedBox.{RoundedBox}
-use Rattle.shape.specs.declared.MaybeBox.{MaybeBox}
-use Rattle.shape.specs.declared.MaybeBox.TheVariants as maybe
 use Rattle.beside.specs.declared.Placed.{Placed}
-use Rattle.beside.specs.declared.MaybePlaced.{MaybePlaced}
-use Rattle.beside.specs.declared.MaybePlaced.TheVariants as alongside
 use Rattle.sides.specs.declared.Sides.{Sides}
 use Rattle.beside.specs.Alongside.{alongside_of}
 
@@ -65,10 +61,10 @@ placed_sides_of p = record { lowx = p.x ⊖ p.hx; lowy = p.y ⊖ p.hy; highx = p
 unfoldable pub raised_of : Sides → Sides
 raised_of s = record { lowx = s.lowx; lowy = s.lowy; highx = max_of s.highx s.lowx; highy = max_of s.highy s.lowy }
 
-abbrev pub rect_by : RoundedBox → MaybePlaced → MaybeBox
-rect_by b (alongside.Placed p) = maybe.Box (between_of b (raised_of (sides_of b p)))
-rect_by b alongside.NotParallel = maybe.NoBox
+abbrev pub rect_by : RoundedBox → Option Placed → Option RoundedBox
+rect_by b (Some p) = Some (between_of b (raised_of (sides_of b p)))
+rect_by b None = None
 
 -- RoundedBox::rect_intersection
-unfoldable pub rect_intersection_of : RoundedBox → RoundedBox → MaybeBox
-rect_intersection_of b other = cond (both_square_of b other) (rect_by b (alongside_of b other)) maybe.NoBox
+unfoldable pub rect_intersection_of : RoundedBox → RoundedBox → Option RoundedBox
+rect_intersection_of b other = cond (both_square_of b other) (rect_by b (alongside_of b other)) None

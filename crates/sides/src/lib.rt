@@ -6,16 +6,16 @@
 #![tactic(auto)]
 
 ghost use Rattle.std.specs.Prelude.{◌≡◌};
-ghost use Rattle.sides.specs.Shared.{square_of, both_square_of, sides_of, own_sides_of, placed_sides_of, sides_are_of, apart_of, between_of, raised_of, rect_intersection_of};
+ghost use Rattle.sides.specs.Shared.{square_of, both_square_of, sides_of, own_sides_of, placed_sides_of, apart_of, between_of, raised_of, rect_intersection_of};
 ghost use Rattle.sides.specs.Calls.{rect_intersection_call};
 
-use beside::{MaybePlaced, Placed};
-use fault::Check;
+use beside::Placed;
+use fault::Fault;
 use geometry::Transform2D;
-use shape::{BoxAnswer, MaybeBox, RoundedBox};
+use shape::RoundedBox;
 
 // The sides of an overlap in a box's frame: `low` and `high`.
-#[derive(Clone, Copy)]
+#[derive(Clone, Copy, PartialEq)]
 pub struct Sides {
     pub lowx: f32,
     pub lowy: f32,
@@ -25,6 +25,7 @@ pub struct Sides {
 
 impl Sides {
     // The nearer of each pair of sides, of a box and of one placed in its frame.
+    #[tactic(auto, unfolding(crate::specs::Shared::sides_of))]
     pub fn shared(b: RoundedBox, p: Placed) -> Sides
         ensures { result ≡ sides_of b p }
     {
@@ -37,6 +38,7 @@ impl Sides {
     }
 
     // A box's own sides.
+    #[tactic(auto, unfolding(crate::specs::Shared::own_sides_of))]
     pub fn own(b: RoundedBox) -> Sides
         ensures { result ≡ own_sides_of b }
     {
@@ -49,6 +51,7 @@ impl Sides {
     }
 
     // Those of a box that is placed in another's frame.
+    #[tactic(auto, unfolding(crate::specs::Shared::placed_sides_of))]
     pub fn placed(p: Placed) -> Sides
         ensures { result ≡ placed_sides_of p }
     {
@@ -61,36 +64,28 @@ impl Sides {
     }
 
     // Whether nothing lies between.
+    #[tactic(auto, unfolding(crate::specs::Shared::apart_of))]
     pub fn apart(self) -> bool
         ensures { result ≡ apart_of self }
     {
         self.lowx >= self.highx || self.lowy >= self.highy
     }
 
-    #[tactic(auto, unfolding(crate::specs::Shared::sides_are_of))]
-    pub fn are(self, other: Self) -> bool
-        ensures { result ≡ sides_are_of self other }
-    {
-        self.lowx == other.lowx
-            && self.lowy == other.lowy
-            && self.highx == other.highx
-            && self.highy == other.highy
-    }
-
     // The sides with each high one no lower than its low one.
+    #[tactic(auto, unfolding(crate::specs::Shared::raised_of))]
     fn raised(self) -> Self
         ensures { result ≡ raised_of self }
     {
         Self {
-            lowx: self.lowx,
-            lowy: self.lowy,
             highx: float::max(self.highx, self.lowx),
             highy: float::max(self.highy, self.lowy),
+            ..self
         }
     }
 }
 
 // The square box between sides that are given in b's frame.
+#[tactic(auto, unfolding(crate::specs::Shared::between_of))]
 pub fn between(b: RoundedBox, s: Sides) -> RoundedBox
     ensures { result ≡ between_of b s }
 {
@@ -108,12 +103,14 @@ pub fn between(b: RoundedBox, s: Sides) -> RoundedBox
 
 // ---- square corners
 
+#[tactic(auto, unfolding(crate::specs::Shared::square_of))]
 pub fn square(b: RoundedBox) -> bool
     ensures { result ≡ square_of b }
 {
     b.rx == 0.0 && b.ry == 0.0
 }
 
+#[tactic(auto, unfolding(crate::specs::Shared::both_square_of))]
 pub fn both_square(one: RoundedBox, two: RoundedBox) -> bool
     ensures { result ≡ both_square_of one two }
 {
@@ -123,26 +120,22 @@ pub fn both_square(one: RoundedBox, two: RoundedBox) -> bool
 // ---- rect_intersection
 
 #[tactic(auto, unfolding(crate::specs::Shared::rect_intersection_of))]
-fn rect_intersection_unchecked(one: RoundedBox, two: RoundedBox) -> MaybeBox
+fn rect_intersection_unchecked(one: RoundedBox, two: RoundedBox) -> Option<RoundedBox>
     ensures { result ≡ rect_intersection_of one two }
 {
     if !both_square(one, two) {
-        return MaybeBox::NoBox;
+        return None;
     }
-    let MaybePlaced::Placed(p) = beside::alongside(one, two) else {
-        return MaybeBox::NoBox;
-    };
-    MaybeBox::Box(between(one, Sides::shared(one, p).raised()))
+    let p = beside::alongside(one, two)?;
+    Some(between(one, Sides::shared(one, p).raised()))
 }
 
 // What two boxes with square corners and parallel sides both cover, exactly: a box with no extent
 // where they lie apart, and none where a corner is round or the sides are not parallel.
 // Ruled out: no box for boxes that lie apart; the overlap at the place of the first box's own centre.
-pub fn rect_intersection(one: RoundedBox, two: RoundedBox) -> BoxAnswer
+pub fn rect_intersection(one: RoundedBox, two: RoundedBox) -> Result<Option<RoundedBox>, Fault>
     ensures { result ≡ rect_intersection_call one two }
 {
-    if let Check::Refused(fault) = beside::pair_check(one, two) {
-        return BoxAnswer::Refused(fault);
-    }
-    rect_intersection_unchecked(one, two).answer()
+    beside::pair_check(one, two)?;
+    Ok(rect_intersection_unchecked(one, two))
 }

@@ -22,6 +22,11 @@ use Rattle.sweep.proofs.Winding.{steady_zero, steady_more}
 
 -- ---- lines
 
+-- a full coverage fills every byte
+pub full : (l : List ℕ) → replicate (length l) 255 ≡ map (plus_of 255) l
+full [] = refl
+full (b ∷ l) = let e : 255 ≡ plus_of 255 b = omega arith in rw (← e, ← full l) refl
+
 -- no coverage leaves a byte as it is
 pub unchanged : (l : List ℕ) → ((i : ℕ) → get_or l i 0 < 256) → l ≡ map (plus_of 0) l
 unchanged [] h = refl

@@ -17,7 +17,7 @@ fn modulo_two(winding: f32) -> f32
     ensures { result ≡ rem binary32 (abs_of winding) f2 }
 {
     if !float::is_finite(winding) {
-        return 0.0 / 0.0;
+        return f32::NAN;
     }
     let parts = float::unpack32(winding);
     if parts.exponent >= 150 {
@@ -53,32 +53,6 @@ pub fn covered(even_odd: bool, winding: f32) -> u8
 
 // ---- bytes of a line
 
-fn plus(a: u8, by: u8) -> u8
-    ensures { result ≡ plus_of by a }
-{
-    if a <= 255 - by { a + by } else { 255 }
-}
-
-fn fill_full(line: &mut [u8])
-    ensures { line.new ≡ map (plus_of 255) line.old }
-{
-    let mut i = 0;
-    while i < line.len() {
-        line[i] = 255;
-        i += 1;
-    }
-}
-
-fn fill_by(line: &mut [u8], by: u8)
-    ensures { line.new ≡ map (plus_of by) line.old }
-{
-    let mut i = 0;
-    while i < line.len() {
-        line[i] = plus(line[i], by);
-        i += 1;
-    }
-}
-
 // Adds a coverage to every byte.
 fn fill(line: &mut [u8], by: u8)
     ensures { line.new ≡ map (plus_of by) line.old }
@@ -87,10 +61,12 @@ fn fill(line: &mut [u8], by: u8)
         return;
     }
     if by == 255 {
-        fill_full(line);
+        line.fill(255);
         return;
     }
-    fill_by(line, by);
+    for byte in line.iter_mut() {
+        *byte = byte.saturating_add(by);
+    }
 }
 
 // Adds a coverage to the bytes from `from` up to `to`.
@@ -124,7 +100,7 @@ fn sweep_cell(line: &mut [u8], cells: &mut [f32], run: Run, cell: usize, even_od
     let winding = run.winding + cells[cell];
     cells[cell] = 0.0;
     let coverage = covered(even_odd, winding);
-    line[cell] = plus(line[cell], coverage);
+    line[cell] = line[cell].saturating_add(coverage);
     Run {
         from: cell + 1,
         winding,

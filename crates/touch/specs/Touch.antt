@@ -2,16 +2,14 @@
 -- coverage exists and whose distance at the point is at most' 0.5 since document 02, change 2, 'counted from 0. "No
 -- frame" comes only when there is no such box.' Which box it is, document 02 says, change 3; change 7: 'the place named
 -- is a 16-bit number'. Definitions only.
-use Rattle.std.specs.Prelude.{ℕ, suc, cond, List, [], ◌∷◌, Float, length}
+use Rattle.std.specs.Prelude.{ℕ, suc, cond, List, [], ◌∷◌, Float, length, Option, Some, None, Result}
 use Rattle.geometry.specs.declared.Position.{Position}
 use Rattle.shape.specs.declared.RoundedBox.{RoundedBox}
-use Rattle.fault.specs.declared.Check.{Check}
+use Rattle.fault.specs.declared.Fault.{Fault}
+use Rattle.fault.specs.Check.{Check, answer_unless, ◌and_then◌}
 use Rattle.shape.specs.Checks.{fringe_check_of, point_check_of}
-use Rattle.fault.specs.Check.{answer_unless, ◌and_then◌}
 use Rattle.boxes.specs.Checks.{most_boxes, count_check_within, boxes_check_of}
 use Rattle.covering.specs.Touches.{touches_of}
-use Rattle.touch.specs.declared.TouchAnswer.{TouchAnswer}
-use Rattle.touch.specs.declared.TouchAnswer.TheVariants.{Frame, NoFrame, Refused}
 
 abbrev pub point_of : Float → Float → Position
 point_of x y = record { x = x; y = y }
@@ -30,14 +28,14 @@ touch_check_of bs fringe p = touch_check_within most_boxes bs fringe p
 -- ---- the answer
 
 -- 'Name the lowest place whose box holds the touch', of boxes that stand at place k and after it
-abbrev pub first_touched_from : ℕ → List RoundedBox → Float → Position → TouchAnswer
-first_touched_from k [] fringe p = NoFrame
-first_touched_from k (b ∷ bs) fringe p = cond (touches_of b fringe p) (Frame k) (first_touched_from (suc k) bs fringe p)
+abbrev pub first_touched_from : ℕ → List RoundedBox → Float → Position → Option ℕ
+first_touched_from k [] fringe p = None
+first_touched_from k (b ∷ bs) fringe p = cond (touches_of b fringe p) (Some k) (first_touched_from (suc k) bs fringe p)
 
 -- the whole list is checked before a place is named; places are counted from 0
-abbrev pub touch_within : ℕ → List RoundedBox → Float → Position → TouchAnswer
-touch_within most bs fringe p = answer_unless Refused (touch_check_within most bs fringe p) (first_touched_from 0 bs fringe p)
+abbrev pub touch_within : ℕ → List RoundedBox → Float → Position → Result (Option ℕ) Fault
+touch_within most bs fringe p = answer_unless (touch_check_within most bs fringe p) (first_touched_from 0 bs fringe p)
 
 -- document 02, change 7: 'A touch list may have up to 4,096 boxes'
-abbrev pub touch_call : List RoundedBox → Float → Position → TouchAnswer
+abbrev pub touch_call : List RoundedBox → Float → Position → Result (Option ℕ) Fault
 touch_call bs fringe p = touch_within most_boxes bs fringe p

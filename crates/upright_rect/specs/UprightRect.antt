@@ -1,9 +1,7 @@
 -- The upright rect that an outline fills, as shape.rs computes it. Definitions only.
-use Rattle.std.specs.Prelude.{cond, ◌&&◌, List, ℕ, leb, length, Float}
+use Rattle.std.specs.Prelude.{cond, ◌&&◌, List, ℕ, leb, length, Float, Option, Some, None}
 use Rattle.geometry.specs.declared.Transform2D.{Transform2D}
 use Rattle.shape.specs.declared.RoundedBox.{RoundedBox}
-use Rattle.shape.specs.declared.MaybeBox.{MaybeBox}
-use Rattle.shape.specs.declared.MaybeBox.TheVariants as maybe
 use Rattle.shape.specs.Outline.{transformed_of}
 use Rattle.sides.specs.Shared.{square_of}
 use Rattle.fit.specs.Fit.{fit_of}
@@ -14,15 +12,15 @@ abbrev pub max_fill_verbs : ℕ
 max_fill_verbs = 8
 
 -- `(fill.upright() && fill.radii == [0.0, 0.0]).then_some(fill)`
-unfoldable pub upright_only_of : RoundedBox → MaybeBox
-upright_only_of fill = cond (upright_of fill && square_of fill) (maybe.Box fill) maybe.NoBox
+unfoldable pub upright_only_of : RoundedBox → Option RoundedBox
+upright_only_of fill = cond (upright_of fill && square_of fill) (Some fill) None
 
 -- `fill`: the outline's box, carried along
-abbrev pub upright_by : MaybeBox → Transform2D → MaybeBox
-upright_by (maybe.Box b) t = upright_only_of (transformed_of b t)
-upright_by maybe.NoBox t = maybe.NoBox
+abbrev pub upright_by : Option RoundedBox → Transform2D → Option RoundedBox
+upright_by (Some b) t = upright_only_of (transformed_of b t)
+upright_by None t = None
 
 -- RoundedBox::upright_rect. Document 02, change 1: 'A done call of `upright_rect` gives no box for a straight outline
 -- of more than 8 verbs'; nor for a curved one, as in the Rust
-unfoldable pub upright_rect_of : List ℕ → List Float → Transform2D → MaybeBox
-upright_rect_of verbs positions t = cond (leb (length verbs) max_fill_verbs) (upright_by (fit_of verbs positions) t) maybe.NoBox
+unfoldable pub upright_rect_of : List ℕ → List Float → Transform2D → Option RoundedBox
+upright_rect_of verbs positions t = cond (leb (length verbs) max_fill_verbs) (upright_by (fit_of verbs positions) t) None

@@ -6,7 +6,7 @@ ghost use Rattle.std.specs.Prelude.{◌≡◌, ◌*◌, ◌^◌, ◌≤◌, ◌<
 ghost use Rattle.std.specs.Float.{binary32};
 ghost use Rattle.std.specs.Float.Ieee.{round, le, to_unsigned};
 ghost use Rattle.float.specs.Ops.{f1};
-ghost use Rattle.whole.specs.Whole.{step_away, whole_div, integral_of, floor_of, ceil_of, column_of, byte_of, of_whole};
+ghost use Rattle.whole.specs.Whole.{floor_of, ceil_of, column_of, byte_of, of_whole};
 
 // n as a float, exactly.
 pub fn from_whole(n: usize) -> f32
@@ -49,73 +49,16 @@ pub fn to_byte(x: f32) -> u8
     255
 }
 
-// A quotient of which `left` is left over, as a whole number: q, or `away` from zero the next one.
-fn step_away(q: u64, left: u64, away: bool) -> u64
-    requires { q < 2 ^ 24 }
-    ensures { result ≡ step_away away q left }
-{
-    if away {
-        if left == 0 {
-            return q;
-        }
-        return q + 1;
-    }
-    q
-}
-
-// d * 2 ^ e of the smallest values of an f32 as a whole number: cut, or away from zero.
-fn cut_whole(d: u64, e: u64, away: bool) -> u64
-    requires d_bound { d < 2 ^ 24 }
-    requires e_bound { e < 149 }
-    ensures { (result ≡ whole_div away (d * 2 ^ e) (2 ^ 149)) × (result ≤ 2 ^ 24) }
-{
-    if e < 100 {
-        // below 1
-        return step_away(0, d, away);
-    }
-    let unit = 1 << (149 - e);
-    step_away(d / unit, d % unit, away)
-}
-
-// n with a sign, as a float.
-fn signed_whole(negative: bool, n: u64) -> f32
-    requires { n ≤ 2 ^ 24 }
-    ensures { result ≡ round binary32 negative n 1 }
-{
-    let size = from_whole(n as usize);
-    if negative {
-        return -size;
-    }
-    size
-}
-
-// x as a whole number, the next one up or down; a NaN and the infinities stay.
-fn integral(x: f32, up: bool) -> f32
-    ensures { result ≡ integral_of up x }
-{
-    if float::is_finite(x) {
-        let p = float::unpack32(x);
-        let e = p.exponent;
-        if 149 <= e {
-            return x;
-        }
-        let negative = p.negative;
-        let n = cut_whole(p.digits, e, negative != up);
-        return signed_whole(negative, n);
-    }
-    x
-}
-
 // The largest whole number that is no larger than x.
 pub fn floor(x: f32) -> f32
     ensures { result ≡ floor_of x }
 {
-    integral(x, false)
+    x.floor()
 }
 
 // The smallest whole number that is no smaller than x.
 pub fn ceil(x: f32) -> f32
     ensures { result ≡ ceil_of x }
 {
-    integral(x, true)
+    x.ceil()
 }

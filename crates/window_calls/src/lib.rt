@@ -2,70 +2,68 @@
 #![tactic(auto)]
 
 use clip_coverage::ClipCoverage;
-use fields::MOST_FLOATS;
 use geometry::{Bounds, Position};
-use std::io::{self, Write};
+use std::io::Write;
+use writing::Failure;
 
 // ---- a clip, a scissor or a fill, and the fringe
 
-pub fn with_scissor(out: &mut impl Write, f: &[f32; MOST_FLOATS]) -> io::Result<()> {
-    answers::both(
-        out,
-        scissor::with_scissor(boxes::box_at(f, 0), boxes::box_at(f, 10), f[20]),
-    )
+pub fn with_scissor(out: &mut impl Write, f: [f32; 21]) -> Result<(), Failure> {
+    let found = scissor::with_scissor(boxes::box_at(&f, 0), boxes::box_at(&f, 10), f[20])?;
+    Ok(answers::both(out, found)?)
 }
 
-pub fn trimmed_scissor(out: &mut impl Write, f: &[f32; MOST_FLOATS]) -> io::Result<()> {
-    answers::boxed(
-        out,
-        scissor::trimmed_scissor(boxes::box_at(f, 0), boxes::box_at(f, 10), f[20]),
-    )
+pub fn trimmed_scissor(out: &mut impl Write, f: [f32; 21]) -> Result<(), Failure> {
+    let found = scissor::trimmed_scissor(boxes::box_at(&f, 0), boxes::box_at(&f, 10), f[20])?;
+    Ok(answers::boxed(out, found)?)
 }
 
-pub fn rect_fill(out: &mut impl Write, f: &[f32; MOST_FLOATS]) -> io::Result<()> {
-    answers::filled(
-        out,
-        fill::rect_fill(boxes::box_at(f, 0), boxes::box_at(f, 10), f[20]),
-    )
+pub fn rect_fill(out: &mut impl Write, f: [f32; 21]) -> Result<(), Failure> {
+    let found = fill::rect_fill(boxes::box_at(&f, 0), boxes::box_at(&f, 10), f[20])?;
+    Ok(answers::filled(out, found)?)
 }
 
 // ---- a coverage
 
-fn coverage_of(f: &[f32; MOST_FLOATS]) -> ClipCoverage {
+fn coverage_of(k: [f32; 11]) -> ClipCoverage {
+    let [la, lb, lc, ld, ox, oy, ex, ey, rx, ry, strays] = k;
     ClipCoverage {
-        la: f[0],
-        lb: f[1],
-        lc: f[2],
-        ld: f[3],
-        ox: f[4],
-        oy: f[5],
-        ex: f[6],
-        ey: f[7],
-        rx: f[8],
-        ry: f[9],
-        strays: f[10],
+        la,
+        lb,
+        lc,
+        ld,
+        ox,
+        oy,
+        ex,
+        ey,
+        rx,
+        ry,
+        strays,
     }
 }
 
-pub fn contains(out: &mut impl Write, f: &[f32; MOST_FLOATS]) -> io::Result<()> {
-    answers::test(out, coverage_of(f).contains(boxes::box_at(f, 11)))
+pub fn contains(out: &mut impl Write, k: [f32; 11], b: [f32; 10]) -> Result<(), Failure> {
+    let holds = coverage_of(k).contains(boxes::box_at(&b, 0))?;
+    Ok(writing::yes_or_no(out, holds)?)
 }
 
-pub fn distance(out: &mut impl Write, f: &[f32; MOST_FLOATS]) -> io::Result<()> {
-    let p = Position { x: f[11], y: f[12] };
-    answers::distance(out, coverage_of(f).distance(p))
+pub fn distance(out: &mut impl Write, k: [f32; 11], [x, y]: [f32; 2]) -> Result<(), Failure> {
+    let distance = coverage_of(k).distance(Position { x, y })?;
+    Ok(answers::distance(out, distance)?)
 }
 
-pub fn reach(out: &mut impl Write, f: &[f32; MOST_FLOATS]) -> io::Result<()> {
-    answers::reach(out, device_bounds::reach(coverage_of(f)))
+pub fn reach(out: &mut impl Write, k: [f32; 11]) -> Result<(), Failure> {
+    Ok(answers::reach(out, device_bounds::reach(coverage_of(k)))?)
 }
 
-pub fn holds(out: &mut impl Write, f: &[f32; MOST_FLOATS]) -> io::Result<()> {
-    let b = Bounds {
-        minx: f[11],
-        miny: f[12],
-        maxx: f[13],
-        maxy: f[14],
+pub fn holds(out: &mut impl Write, k: [f32; 11], b: [f32; 4]) -> Result<(), Failure> {
+    let [minx, miny, maxx, maxy] = b;
+    let bounds = Bounds {
+        minx,
+        miny,
+        maxx,
+        maxy,
     };
-    writing::yes_or_no(out, device_bounds::holds(coverage_of(f), b))
+    let holds = device_bounds::holds(coverage_of(k), bounds);
+    Ok(writing::yes_or_no(out, holds)?)
 }

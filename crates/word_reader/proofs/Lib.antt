@@ -1,3 +1,2 @@
--- Sign: a word by its sign. Reader: what the word reader finds, and what a word says by itself.
-pub mod Sign
+-- Reader: what the word reader finds, and what a word says by itself.
 pub mod Reader

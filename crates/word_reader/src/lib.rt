@@ -1,115 +1,79 @@
 // One word of a mask's word list, two, and the word reader. Functions take the list and a place in
-// it; what stands there is what a definition reads from that place on. The public functions are
-// for the crates above: none is a call of the kiosk's.
+// it; what stands there is what a definition reads from that place on, and a word is `None` at the
+// list's end. The public functions are for the crates above: none is a call of the kiosk's.
 #![tactic(auto)]
 
 ghost use Rattle.std.specs.Prelude.{◌≡◌, ◌+◌, drop};
 ghost use Rattle.word_list.specs.Words.{beyond, read_count, read_coordinate};
 ghost use Rattle.word_reader.specs.Reader.{ahead, word_of, alone_of, is_even_odd, counted_of, checked_of};
 
-use fault::Fault;
+use fault::{Check, Fault};
 
-// A count word.
-#[derive(Clone, Copy)]
-pub enum Counted {
-    Count(usize),
-    Refused(Fault),
+// The largest size of a coordinate.
+const LARGEST_COORDINATE: i32 = 1048576;
+
+// A word as a rule: whether it asks for even-odd. The list's end does not.
+fn is_even_odd(word: Option<i32>) -> bool
+    ensures { result ≡ is_even_odd word }
+{
+    word.is_some_and(|rule| rule != 0)
 }
 
-// A word or a pair of words that is only checked.
-#[derive(Clone, Copy)]
-pub enum Checked {
-    Good,
-    Refused(Fault),
+// A word as a count.
+#[tactic(auto, unfolding(word_list::specs::Words::read_count))]
+fn count(word: Option<i32>) -> Result<usize, Fault>
+    ensures { result ≡ counted_of (read_count (alone_of word)) }
+{
+    let n = word.ok_or(Fault::ListEndsEarly)?;
+    usize::try_from(n).map_err(|_| Fault::CountOutOfRange)
 }
 
-// A word of the list, or its end.
-#[derive(Clone, Copy)]
-pub enum Word {
-    Value(i32),
-    End,
+// Whether a coordinate lies beyond its limit.
+#[tactic(auto, unfolding(word_list::specs::Words::beyond))]
+fn is_beyond(x: i32) -> bool
+    ensures { result ≡ beyond x }
+{
+    x < -LARGEST_COORDINATE || LARGEST_COORDINATE < x
 }
 
-impl Word {
-    // The largest size of a coordinate.
-    const LARGEST_COORDINATE: i32 = 1048576;
-
-    // As a rule: whether it asks for even-odd. The list's end does not.
-    fn is_even_odd(self) -> bool
-        ensures { result ≡ is_even_odd self }
-    {
-        match self {
-            Word::Value(rule) => rule != 0,
-            Word::End => false,
-        }
+// A word as a coordinate.
+#[tactic(auto, unfolding(word_list::specs::Words::read_coordinate))]
+pub fn coordinate(word: Option<i32>) -> Check
+    ensures { result ≡ checked_of (read_coordinate (alone_of word)) }
+{
+    let x = word.ok_or(Fault::ListEndsEarly)?;
+    if is_beyond(x) {
+        return Err(Fault::CoordinateOutOfRange);
     }
-
-    // As a count.
-    fn count(self) -> Counted
-        ensures { result ≡ counted_of (read_count (alone_of self)) }
-    {
-        let Word::Value(n) = self else {
-            return Counted::Refused(Fault::ListEndsEarly);
-        };
-        if n < 0 {
-            return Counted::Refused(Fault::CountOutOfRange);
-        }
-        Counted::Count(n as usize)
-    }
-
-    // Whether a coordinate lies beyond its limit.
-    fn is_beyond(x: i32) -> bool
-        ensures { result ≡ beyond x }
-    {
-        x < -Self::LARGEST_COORDINATE || Self::LARGEST_COORDINATE < x
-    }
-
-    // As a coordinate.
-    pub fn coordinate(self) -> Checked
-        ensures { result ≡ checked_of (read_coordinate (alone_of self)) }
-    {
-        let Word::Value(x) = self else {
-            return Checked::Refused(Fault::ListEndsEarly);
-        };
-        if Self::is_beyond(x) {
-            return Checked::Refused(Fault::CoordinateOutOfRange);
-        }
-        Checked::Good
-    }
+    Ok(())
 }
 
 // Two words of the list, one behind the other.
 #[derive(Clone, Copy)]
 pub struct Pair {
-    pub first: Word,
-    pub second: Word,
+    pub first: Option<i32>,
+    pub second: Option<i32>,
 }
 
 // The head of a group: its rule, and its count of contours.
 #[derive(Clone, Copy)]
 pub struct Head {
     pub even_odd: bool,
-    pub contours: Counted,
+    pub contours: Result<usize, Fault>,
 }
 
 // What stands at a place: the only index into a word list.
-fn value_at(words: &[i32], at: usize) -> Word
+fn value_at(words: &[i32], at: usize) -> Option<i32>
     ensures { result ≡ word_of (drop at words.now) }
 {
-    if words.len() <= at {
-        return Word::End;
-    }
-    Word::Value(words[at])
+    words.get(at).copied()
 }
 
 // The place behind another, or the same where the list has ended.
 fn place_behind(words: &[i32], at: usize) -> usize
     ensures { drop result words.now ≡ drop (at + 1) words.now }
 {
-    if words.len() <= at {
-        return at;
-    }
-    at + 1
+    if at < words.len() { at + 1 } else { at }
 }
 
 // The word reader: the lent list and the place of its next word. Each function over it is thin; the
@@ -129,7 +93,7 @@ impl<'a> WordReader<'a> {
     }
 
     // The next word.
-    fn peek(self) -> Word
+    fn peek(self) -> Option<i32>
         ensures { result ≡ word_of (ahead self.entry) }
     {
         value_at(self.words, self.at)
@@ -147,7 +111,7 @@ impl<'a> WordReader<'a> {
 }
 
 // The word at a place.
-pub fn word_at(words: &[i32], at: usize) -> Word
+pub fn word_at(words: &[i32], at: usize) -> Option<i32>
     ensures { result ≡ word_of (drop at words.now) }
 {
     WordReader::new(words, at).peek()
@@ -165,21 +129,21 @@ pub fn pair_at(words: &[i32], at: usize) -> Pair
 }
 
 // The count word at a place.
-pub fn count_at(words: &[i32], at: usize) -> Counted
+#[tactic(auto, using(crate::proofs::Reader::first_count))]
+pub fn count_at(words: &[i32], at: usize) -> Result<usize, Fault>
     ensures { result ≡ counted_of (read_count (drop at words.now)) }
 {
-    word_at(words, at).count()
+    count(word_at(words, at))
 }
 
 // The head of the group at a place.
+#[tactic(auto, using(crate::proofs::Reader::first_count))]
 pub fn head_at(words: &[i32], at: usize) -> Head
     ensures { (result.even_odd ≡ is_even_odd (word_of (drop at words.now))) × (result.contours ≡ counted_of (read_count (drop (at + 1) words.now))) }
 {
     let head = pair_at(words, at);
-    let rule = head.first;
-    let contours = head.second;
     Head {
-        even_odd: rule.is_even_odd(),
-        contours: contours.count(),
+        even_odd: is_even_odd(head.first),
+        contours: count(head.second),
     }
 }

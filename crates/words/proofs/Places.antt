@@ -13,8 +13,7 @@ use Rattle.word_list.specs.Words.{Point, Group, points_of, points_in, Read, ok, 
 use Rattle.word_list.specs.Words.{read_count, read_point, read_points, read_contour, read_contours, read_group, read_groups, read_words}
 use Rattle.word_reader.specs.Reader.{counted_of}
 use Rattle.words.specs.Scan.{Fine, points_from, contours_from, end_of, no_group}
-use Rattle.word_reader.specs.declared.Counted.{Counted}
-use Rattle.word_reader.specs.declared.Counted.TheVariants as counted
+use Rattle.std.specs.Prelude.{Result, Ok, Err}
 use Rattle.word_list.proofs.Ends.{Both, then_ok, cond_ok, Ended, ended_group, placed}
 use Rattle.word_reader.proofs.Reader.{at_end, at_word}
 use Rattle.words.proofs.Steps.{point_at, PointThere, point_there, point_read, count_next}
@@ -122,7 +121,7 @@ pub record ContourThere (n : ℕ) (ws : List ℤ) (at count : ℕ) : Type 0 wher
 
 pub record NextContour (n : ℕ) (ws : List ℤ) (at : ℕ) : Type 0 where
   pub count : ℕ
-  pub read : counted_of (read_count (drop at ws)) ≡ counted.Count count
+  pub read : counted_of (read_count (drop at ws)) ≡ Ok count
   pub there : ContourThere n ws at count
 
 pub next_contour : (n : ℕ) (ws : List ℤ) (at : ℕ) → 0 < n → Fine (read_contours n 0 (drop at ws)) → NextContour n ws at
@@ -165,16 +164,16 @@ next_contour (suc n) ws at h f =
     }
 
 -- its count word says how many points it has, and is not refused
-module _ (n : ℕ) (ws : List ℤ) (at : ℕ) (some : 0 < n) (fine : Fine (read_contours n 0 (drop at ws))) {r : Counted}
+module _ (n : ℕ) (ws : List ℤ) (at : ℕ) (some : 0 < n) (fine : Fine (read_contours n 0 (drop at ws))) {r : Result ℕ Fault}
     (is : r ≡ counted_of (read_count (drop at ws))) where
-  pub contour_there : {m : ℕ} → r ≡ counted.Count m → ContourThere n ws at m
+  pub contour_there : {m : ℕ} → r ≡ Ok m → ContourThere n ws at m
   contour_there {m} e =
       let c = next_contour n ws at some fine in
       let told = c.read in
       let same : c.count ≡ m = cc in
       subst (ContourThere n ws at) same c.there
 
-  pub contour_counted : {f : Fault} → r ≡ counted.Refused f → ⊥
+  pub contour_counted : {f : Fault} → r ≡ Err f → ⊥
   contour_counted e =
       let told = (next_contour n ws at some fine).read in
       let z : ◌≡◌ {A = ℕ} 0 1 = cc in
@@ -190,7 +189,7 @@ no_contour (suc n) ws at h l = absurd (omega arith)
 pub record GroupThere (ws : List ℤ) (at : ℕ) : Type 0 where
   pub count : ℕ
   pub rule : at < length ws
-  pub read : counted_of (read_count (drop (at + 1) ws)) ≡ counted.Count count
+  pub read : counted_of (read_count (drop (at + 1) ws)) ≡ Ok count
   pub contours : Fine (read_contours count 0 (drop (at + 2) ws))
   pub within : at + 2 ≤ length ws
   pub whole : read_or no_group (read_group 0 (drop at ws)) ≡ record { rule = get_or ws at (pos 0); contours = contours_from ws (at + 2) count }

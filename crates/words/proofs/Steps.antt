@@ -16,31 +16,36 @@ use Rattle.word_list.specs.Words.{read_count, read_coordinate, read_point, read_
 use Rattle.word_reader.specs.Reader.{counted_of, checked_of}
 use Rattle.words.specs.Scan.{scan_of}
 use Rattle.word_list.specs.Words.{group_points}
-use Rattle.word_reader.specs.declared.Counted.{Counted}
-use Rattle.word_reader.specs.declared.Counted.TheVariants as counted
-use Rattle.word_reader.specs.declared.Checked.{Checked}
-use Rattle.word_reader.specs.declared.Checked.TheVariants as checked
 use Rattle.words.specs.declared.Scan.{Scan}
-use Rattle.words.specs.declared.Scan.TheVariants as scan
+use Rattle.std.specs.Prelude.{Result, Ok, Err}
+use Rattle.std.specs.Result.{IsErrAnd}
+use Rattle.std.proofs.lemmas.Result.{err_from_is_err_and}
+use Rattle.fault.specs.Check.{Check}
 use Rattle.word_reader.proofs.Reader.{at_end, at_word}
 use Rattle.word_list.proofs.Ends.{Ended, ended_contour, ended_group, placed}
 use Rattle.word_list.proofs.Few.{contour_few, group_few}
 
+-- ---- what the exit of a `?` returns: the error that it met
+pub exits : {A : Type 0} (r : Result A Fault) (f : Fault) → IsErrAnd r (λ e. e ≡ f) → r ≡ Err f
+exits r f h = let p = err_from_is_err_and r h in p.1 ∙ ap (λ (e : Fault). Err e) p.2
+
 -- ---- what an answer says
-pub counted_count : (r : Read ℕ) (n : ℕ) → counted_of r ≡ counted.Count n → (rest : List ℤ) × (r ≡ ok n rest)
+abbrev pub Scanned : Type 0
+Scanned = Result Scan Fault
+
+abbrev pub scanned : ℕ → ℕ → Scanned
+scanned at points = Ok (record { at = at; points = points })
+
+pub counted_count : (r : Read ℕ) (n : ℕ) → counted_of r ≡ Ok n → (rest : List ℤ) × (r ≡ ok n rest)
 counted_count (ok m rest) n e = (rest, cc)
 counted_count (fault f) n e = let z : ◌≡◌ {A = ℕ} 0 1 = cc in absurd (omega arith)
 
-pub counted_fault : (r : Read ℕ) (f : Fault) → counted_of r ≡ counted.Refused f → r ≡ fault f
+pub counted_fault : (r : Read ℕ) (f : Fault) → counted_of r ≡ Err f → r ≡ fault f
 counted_fault (ok m rest) f e = let z : ◌≡◌ {A = ℕ} 0 1 = cc in absurd (omega arith)
 counted_fault (fault g) f e = cc
 
 module _ {A : Type 0} where
-  pub checked_good : (r : Read A) → checked_of r ≡ checked.Good → (a : A) × (rest : List ℤ) × (r ≡ ok a rest)
-  checked_good (ok a rest) e = (a, rest, refl)
-  checked_good (fault f) e = let z : ◌≡◌ {A = ℕ} 0 1 = cc in absurd (omega arith)
-
-  pub checked_fault : (r : Read A) (f : Fault) → checked_of r ≡ checked.Refused f → r ≡ fault f
+  pub checked_fault : (r : Read A) (f : Fault) → checked_of r ≡ Err f → r ≡ fault f
   checked_fault (ok a rest) f e = let z : ◌≡◌ {A = ℕ} 0 1 = cc in absurd (omega arith)
   checked_fault (fault g) f e = cc
 
@@ -51,20 +56,22 @@ module _ {A : Type 0} where
     pub place : k ≡ total - length rest
     pub count : p ≡ before + points value
 
-  pub scan_at : (total : ℕ) (points : A → ℕ) (before : ℕ) (r : Read A) (k p : ℕ) → scan_of total points before r ≡ scan.At k p → Went total points before r k p
-  scan_at total points before (ok a rest) k p e = record { value = a; rest = rest; read = refl; place = cc; count = cc }
+  pub scan_at : (total : ℕ) (points : A → ℕ) (before : ℕ) (r : Read A) (k p : ℕ) → scan_of total points before r ≡ scanned k p → Went total points before r k p
+  scan_at total points before (ok a rest) k p e =
+      let s : ◌≡◌ {A = Scan} (record { at = total - length rest; points = before + points a }) (record { at = k; points = p }) = cc in
+      record { value = a; rest = rest; read = refl; place = sym (ap (λ (s : Scan). s.at) s); count = sym (ap (λ (s : Scan). s.points) s) }
   scan_at total points before (fault f) k p e = let z : ◌≡◌ {A = ℕ} 0 1 = cc in absurd (omega arith)
 
-  pub scan_fault : (total : ℕ) (points : A → ℕ) (before : ℕ) (r : Read A) (f : Fault) → scan_of total points before r ≡ scan.Refused f → r ≡ fault f
+  pub scan_fault : (total : ℕ) (points : A → ℕ) (before : ℕ) (r : Read A) (f : Fault) → scan_of total points before r ≡ Err f → r ≡ fault f
   scan_fault total points before (ok a rest) f e = let z : ◌≡◌ {A = ℕ} 0 1 = cc in absurd (omega arith)
   scan_fault total points before (fault g) f e = cc
 
 -- ---- the coordinate at a place
-pub coordinate_missing : (ws : List ℤ) (at : ℕ) → length ws ≤ at → checked.Refused ListEndsEarly ≡ checked_of (read_coordinate (drop at ws))
+pub coordinate_missing : (ws : List ℤ) (at : ℕ) → length ws ≤ at → Err ListEndsEarly ≡ checked_of (read_coordinate (drop at ws))
 unfolding read_coordinate
 coordinate_missing ws at h = rw (at_end ws at h) refl
 
-pub coordinate_far : (ws : List ℤ) (at : ℕ) → at < length ws → beyond (get_or ws at (pos 0)) ≡ true → checked.Refused CoordinateOutOfRange ≡ checked_of (read_coordinate (drop at ws))
+pub coordinate_far : (ws : List ℤ) (at : ℕ) → at < length ws → beyond (get_or ws at (pos 0)) ≡ true → Err CoordinateOutOfRange ≡ checked_of (read_coordinate (drop at ws))
 unfolding read_coordinate
 coordinate_far ws at h e = rw (at_word ws at h, e) refl
 
@@ -72,11 +79,11 @@ pub coordinate_good : (ws : List ℤ) (at : ℕ) → at < length ws → beyond (
 unfolding read_coordinate
 coordinate_good ws at h e = rw (at_word ws at h, e) refl
 
-pub coordinate_next : (ws : List ℤ) (at : ℕ) → checked_of (read_coordinate (drop at ws)) ≡ checked.Good
+pub coordinate_next : (ws : List ℤ) (at : ℕ) → checked_of (read_coordinate (drop at ws)) ≡ Ok tt
     → (at < length ws) × (beyond (get_or ws at (pos 0)) ≡ false)
 coordinate_next ws at e = go (ltb at (length ws)) (beyond (get_or ws at (pos 0))) refl refl
   where
-    not_good : {f : Fault} → checked.Refused f ≡ checked.Good → ⊥
+    not_good : {f : Fault} → ◌≡◌ {A = Check} (Err f) (Ok tt) → ⊥
     not_good {f} h = let z : ◌≡◌ {A = ℕ} 0 1 = cc in omega arith
 
     go : (b d : Bool) → ltb at (length ws) ≡ b → beyond (get_or ws at (pos 0)) ≡ d → (at < length ws) × (d ≡ false)
@@ -90,11 +97,11 @@ unfolding and_then
 checked_map f (ok a rest) = refl
 checked_map f (fault g) = refl
 
-pub point_first : (ws : List ℤ) (at : ℕ) (f : Fault) → checked.Refused f ≡ checked_of (read_coordinate (drop at ws)) → checked.Refused f ≡ checked_of (read_point (drop at ws))
+pub point_first : (ws : List ℤ) (at : ℕ) (f : Fault) → Err f ≡ checked_of (read_coordinate (drop at ws)) → Err f ≡ checked_of (read_point (drop at ws))
 unfolding read_point and_then
 point_first ws at f e = rw (checked_fault (read_coordinate (drop at ws)) f (sym e)) refl
 
-pub point_second : (ws : List ℤ) (at : ℕ) → checked_of (read_coordinate (drop at ws)) ≡ checked.Good → checked_of (read_coordinate (drop (at + 1) ws)) ≡ checked_of (read_point (drop at ws))
+pub point_second : (ws : List ℤ) (at : ℕ) → checked_of (read_coordinate (drop at ws)) ≡ Ok tt → checked_of (read_coordinate (drop (at + 1) ws)) ≡ checked_of (read_point (drop at ws))
 unfolding read_point
 point_second ws at e =
     let n = coordinate_next ws at e in
@@ -115,31 +122,31 @@ point_read ws at h =
     rw (coordinate_good ws at (omega (arith, h.within)) h.x_in_limit, coordinate_good ws (at + 1) (omega (arith, h.within)) h.y_in_limit)
     (let e : at + 1 + 1 ≡ at + 2 = omega arith in ap (λ (k : ℕ). ok (point_at ws at) (drop k ws)) e)
 
-pub point_there : (ws : List ℤ) (at : ℕ) → checked_of (read_point (drop at ws)) ≡ checked.Good → PointThere ws at
+pub point_there : (ws : List ℤ) (at : ℕ) → checked_of (read_point (drop at ws)) ≡ Ok tt → PointThere ws at
 point_there ws at e = go (checked_of (read_coordinate (drop at ws))) refl
   where
-    go : (r : Checked) → checked_of (read_coordinate (drop at ws)) ≡ r → PointThere ws at
-    go checked.Good h =
+    go : (r : Check) → checked_of (read_coordinate (drop at ws)) ≡ r → PointThere ws at
+    go (Ok u) h =
         let n = coordinate_next ws at h in
         let m = coordinate_next ws (at + 1) (point_second ws at h ∙ e) in
         record { within = omega (arith, m.0); x_in_limit = n.1; y_in_limit = m.1 }
-    go (checked.Refused f) h = let s = point_first ws at f (sym h) ∙ e in let z : ◌≡◌ {A = ℕ} 0 1 = cc in absurd (omega arith)
+    go (Err f) h = let s = point_first ws at f (sym h) ∙ e in let z : ◌≡◌ {A = ℕ} 0 1 = cc in absurd (omega arith)
 
 -- ---- lists of points, contours and groups: one is read, and then the others
 pub scan_cons : {A : Type 0} (total : ℕ) (points : List A → ℕ) (before w : ℕ) (a : A) → ((l : List A) → points (a ∷ l) ≡ w + points l) → (r : Read (List A))
     → scan_of total points before (and_then r (λ l rest. ok (a ∷ l) rest)) ≡ scan_of total points (before + w) r
 unfolding and_then
-scan_cons total points before w a h (ok l rest) = ap (λ (n : ℕ). scan.At (total - length rest) n) (ap (λ (n : ℕ). before + n) (h l) ∙ sym (add_assoc before w (points l)))
+scan_cons total points before w a h (ok l rest) = ap (λ (n : ℕ). scanned (total - length rest) n) (ap (λ (n : ℕ). before + n) (h l) ∙ sym (add_assoc before w (points l)))
 scan_cons total points before w a h (fault f) = refl
 
-abbrev scan_points : List ℤ → ℕ → ℕ → ℕ → Scan
+abbrev scan_points : List ℤ → ℕ → ℕ → ℕ → Scanned
 scan_points ws n before at = scan_of (length ws) length before (read_points n (drop at ws))
 
-pub points_none : (ws : List ℤ) (n before at : ℕ) → n ≤ 0 → at ≤ length ws → scan.At at before ≡ scan_points ws n before at
+pub points_none : (ws : List ℤ) (n before at : ℕ) → n ≤ 0 → at ≤ length ws → scanned at before ≡ scan_points ws n before at
 unfolding read_points
 points_none ws zero before at h l =
     let e : length ws - length (drop at ws) ≡ at = omega (arith, length-drop at ws) in
-    sym (ap (λ (k : ℕ). scan.At k (before + 0)) e ∙ ap (λ (n : ℕ). scan.At at n) (add-zero before))
+    sym (ap (λ (k : ℕ). scanned k (before + 0)) e ∙ ap (λ (n : ℕ). scanned at n) (add-zero before))
 points_none ws (suc n) before at h l = absurd (omega arith)
 
 pub points_step : (ws : List ℤ) (n before at : ℕ) → 0 < n → PointThere ws at → scan_points ws n before at ≡ scan_points ws (n - 1) (before + 1) (at + 2)
@@ -149,7 +156,7 @@ points_step ws (suc n) before at h p =
     let e : suc n - 1 ≡ n = omega arith in
     rw (e, point_read ws at p) (unfold and_then in scan_cons (length ws) length before 1 (point_at ws at) (λ l. omega arith) (read_points n (drop (at + 2) ws)))
 
-pub points_fault : (ws : List ℤ) (n before at : ℕ) (f : Fault) → 0 < n → read_point (drop at ws) ≡ fault f → scan_points ws n before at ≡ scan.Refused f
+pub points_fault : (ws : List ℤ) (n before at : ℕ) (f : Fault) → 0 < n → read_point (drop at ws) ≡ fault f → scan_points ws n before at ≡ Err f
 unfolding read_points and_then
 points_fault ws zero before at f h e = absurd (omega arith)
 points_fault ws (suc n) before at f h e = rw e refl
@@ -161,12 +168,9 @@ pub record PointsAt (ws : List ℤ) (from n before at remaining : ℕ) : Type 0 
   pub same : scan_points ws n before from ≡ scan_points ws remaining (before + (n - remaining)) at
 
 module _ {ws : List ℤ} {from n before : ℕ} where
-  pub points_start : from ≤ length ws → PointsAt ws from n before from n
-  points_start l = let z : before + (n - n) ≡ before = omega arith in record { within = l; few = omega arith; same = rw z refl }
-
   module _ {at remaining : ℕ} (s : PointsAt ws from n before at remaining) where
-    pub points_stop : 0 < remaining → {r : Checked} {f : Fault} → r ≡ checked_of (read_point (drop at ws)) → r ≡ checked.Refused f
-        → scan.Refused f ≡ scan_points ws n before from
+    pub points_stop : 0 < remaining → {r : Check} {f : Fault} → r ≡ checked_of (read_point (drop at ws)) → r ≡ Err f
+        → Err f ≡ scan_points ws n before from
     points_stop h {f = f} is e =
         let x = checked_fault (read_point (drop at ws)) f (sym is ∙ e) in
         sym (s.same ∙ points_fault ws remaining (before + (n - remaining)) at f h x)
@@ -178,21 +182,21 @@ module _ {ws : List ℤ} {from n before : ℕ} where
         let one = points_step ws remaining (before + (n - remaining)) at h p in
         record { within = p.within; few = omega arith; same = s.same ∙ rw e at one }
 
-    pub points_end : remaining ≤ 0 → scan.At at (before + n) ≡ scan_points ws n before from
+    pub points_end : remaining ≤ 0 → scanned at (before + n) ≡ scan_points ws n before from
     points_end h =
         let e : before + (n - remaining) ≡ before + n = omega arith in
         let none = points_none ws remaining (before + (n - remaining)) at h s.within in
         rw e at none ∙ sym (rw e at s.same)
 
 -- ---- contours
-abbrev scan_contours : List ℤ → ℕ → ℕ → ℕ → Scan
+abbrev scan_contours : List ℤ → ℕ → ℕ → ℕ → Scanned
 scan_contours ws n before at = scan_of (length ws) points_of before (read_contours n before (drop at ws))
 
-pub contours_none : (ws : List ℤ) (n before at : ℕ) → n ≤ 0 → at ≤ length ws → scan.At at before ≡ scan_contours ws n before at
+pub contours_none : (ws : List ℤ) (n before at : ℕ) → n ≤ 0 → at ≤ length ws → scanned at before ≡ scan_contours ws n before at
 unfolding read_contours points_of
 contours_none ws zero before at h l =
     let e : length ws - length (drop at ws) ≡ at = omega (arith, length-drop at ws) in
-    sym (ap (λ (k : ℕ). scan.At k (before + 0)) e ∙ ap (λ (n : ℕ). scan.At at n) (add-zero before))
+    sym (ap (λ (k : ℕ). scanned k (before + 0)) e ∙ ap (λ (n : ℕ). scanned at n) (add-zero before))
 contours_none ws (suc n) before at h l = absurd (omega arith)
 
 -- where a contour's reading leads
@@ -232,7 +236,7 @@ module _ (ws : List ℤ) (n before at next more : ℕ) (some : 0 < n) (inside : 
       go zero h = absurd (omega arith)
       go (suc m) h = let e : suc m - 1 ≡ m = omega arith in rw (e, w.read) (unfold and_then in tail m)
 
-pub contours_fault : (ws : List ℤ) (n before at : ℕ) (f : Fault) → 0 < n → read_contour before (drop at ws) ≡ fault f → scan_contours ws n before at ≡ scan.Refused f
+pub contours_fault : (ws : List ℤ) (n before at : ℕ) (f : Fault) → 0 < n → read_contour before (drop at ws) ≡ fault f → scan_contours ws n before at ≡ Err f
 unfolding read_contours and_then
 contours_fault ws zero before at f h e = absurd (omega arith)
 contours_fault ws (suc n) before at f h e = rw e refl
@@ -244,29 +248,29 @@ pub record ContoursAt (ws : List ℤ) (from n before at points remaining : ℕ) 
   pub same : scan_contours ws n before from ≡ scan_contours ws remaining points at
 
 module _ {ws : List ℤ} {from n before at points remaining : ℕ} (s : ContoursAt ws from n before at points remaining) where
-  abbrev scan_next : Scan
+  abbrev scan_next : Scanned
   scan_next = scan_of (length ws) length points (read_contour points (drop at ws))
 
-  pub contours_stop : 0 < remaining → {r : Scan} {f : Fault} → r ≡ scan_next → r ≡ scan.Refused f → scan.Refused f ≡ scan_contours ws n before from
+  pub contours_stop : 0 < remaining → {r : Scanned} {f : Fault} → r ≡ scan_next → r ≡ Err f → Err f ≡ scan_contours ws n before from
   contours_stop h {f = f} is e =
       let x = scan_fault (length ws) length points (read_contour points (drop at ws)) f (sym is ∙ e) in
       sym (s.same ∙ contours_fault ws remaining points at f h x)
 
-  pub contours_more : 0 < remaining → {r : Scan} {next more : ℕ} → r ≡ scan_next → r ≡ scan.At next more
+  pub contours_more : 0 < remaining → {r : Scanned} {next more : ℕ} → r ≡ scan_next → r ≡ scanned next more
       → ContoursAt ws from n before next more (remaining - 1)
   contours_more h {next = next} {more} is e =
       let w = scan_at (length ws) length points (read_contour points (drop at ws)) next more (sym is ∙ e) in
       let o = contour_onward ws remaining points at next more h s.within w in
       record { within = o.within; few = o.few; same = s.same ∙ contours_step ws remaining points at next more h s.within w }
 
-  pub contours_end : remaining ≤ 0 → scan.At at points ≡ scan_contours ws n before from
+  pub contours_end : remaining ≤ 0 → scanned at points ≡ scan_contours ws n before from
   contours_end h = contours_none ws remaining points at h s.within ∙ sym s.same
 
 -- ---- a group
 scan_map : {A B : Type 0} (total : ℕ) (points : A → ℕ) (count : B → ℕ) (before : ℕ) (f : A → B) → ((a : A) → count (f a) ≡ points a) → (r : Read A)
     → scan_of total count before (and_then r (λ a rest. ok (f a) rest)) ≡ scan_of total points before r
 unfolding and_then
-scan_map total points count before f h (ok a rest) = ap (λ (n : ℕ). scan.At (total - length rest) (before + n)) (h a)
+scan_map total points count before f h (ok a rest) = ap (λ (n : ℕ). scanned (total - length rest) (before + n)) (h a)
 scan_map total points count before f h (fault g) = refl
 
 -- the word behind a count
@@ -292,25 +296,25 @@ pub record CountThere (ws : List ℤ) (at n : ℕ) : Type 0 where
   pub within : at < length ws
   pub read : read_count (drop at ws) ≡ ok n (drop (at + 1) ws)
 
-module _ (ws : List ℤ) (at : ℕ) {r : Counted} (is : r ≡ counted_of (read_count (drop at ws))) where
-  pub count_there : {n : ℕ} → r ≡ counted.Count n → CountThere ws at n
+module _ (ws : List ℤ) (at : ℕ) {r : Result ℕ Fault} (is : r ≡ counted_of (read_count (drop at ws))) where
+  pub count_there : {n : ℕ} → r ≡ Ok n → CountThere ws at n
   count_there {n} e =
       let c = counted_count (read_count (drop at ws)) n (sym is ∙ e) in
       let q = count_next ws at n c.0 c.1 in
       record { within = q.0; read = c.1 ∙ ap (ok n) q.1 }
 
-  pub count_refused : {f : Fault} → r ≡ counted.Refused f → read_count (drop at ws) ≡ fault f
+  pub count_refused : {f : Fault} → r ≡ Err f → read_count (drop at ws) ≡ fault f
   count_refused {f} e = counted_fault (read_count (drop at ws)) f (sym is ∙ e)
 
-abbrev scan_group : List ℤ → ℕ → ℕ → Scan
+abbrev scan_group : List ℤ → ℕ → ℕ → Scanned
 scan_group ws before at = scan_of (length ws) group_points before (read_group before (drop at ws))
 
 -- where the rule word is missing, so is the count
-pub group_fault : (ws : List ℤ) (at before : ℕ) (f : Fault) → read_count (drop (at + 1) ws) ≡ fault f → scan.Refused f ≡ scan_group ws before at
+pub group_fault : (ws : List ℤ) (at before : ℕ) (f : Fault) → read_count (drop (at + 1) ws) ≡ fault f → Err f ≡ scan_group ws before at
 unfolding read_group and_then read_count
 group_fault ws at before f e = go (ltb at (length ws)) refl
   where
-    go : (b : Bool) → ltb at (length ws) ≡ b → scan.Refused f ≡ scan_group ws before at
+    go : (b : Bool) → ltb at (length ws) ≡ b → Err f ≡ scan_group ws before at
     go true h = rw (at_word ws at (ltb-true at (length ws) h), e) refl
     go false h =
         let l = ltb-false at (length ws) h in
@@ -318,7 +322,7 @@ group_fault ws at before f e = go (ltb at (length ws)) refl
         let same : f ≡ ListEndsEarly = cc in
         rw (at_end ws at l, same) refl
 
-pub group_contours : (at before : ℕ) {ws : List ℤ} {n : ℕ} → CountThere ws (at + 1) n → {r : Scan} → r ≡ scan_contours ws n before (at + 2)
+pub group_contours : (at before : ℕ) {ws : List ℤ} {n : ℕ} → CountThere ws (at + 1) n → {r : Scanned} → r ≡ scan_contours ws n before (at + 2)
     → r ≡ scan_group ws before at
 unfolding read_group
 group_contours at before {ws} {n} c e =
@@ -331,24 +335,24 @@ group_contours at before {ws} {n} c e =
     group cs = record { rule = get_or ws at (pos 0); contours = cs }
 
 -- ---- a contour: its count, and its points
-abbrev scan_contour : List ℤ → ℕ → ℕ → Scan
+abbrev scan_contour : List ℤ → ℕ → ℕ → Scanned
 scan_contour ws before at = scan_of (length ws) length before (read_contour before (drop at ws))
 
-pub contour_count : (ws : List ℤ) (at before : ℕ) (f : Fault) → read_count (drop at ws) ≡ fault f → scan.Refused f ≡ scan_contour ws before at
+pub contour_count : (ws : List ℤ) (at before : ℕ) (f : Fault) → read_count (drop at ws) ≡ fault f → Err f ≡ scan_contour ws before at
 unfolding read_contour and_then
 contour_count ws at before f e = rw e refl
 
 module _ {ws : List ℤ} {at n : ℕ} (c : CountThere ws at n) (before : ℕ) where
-  pub contour_many : 2048 - before < n → scan.Refused CountOutOfRange ≡ scan_contour ws before at
+  pub contour_many : 2048 - before < n → Err CountOutOfRange ≡ scan_contour ws before at
   unfolding read_contour and_then
   contour_many h = rw (c.read, lt-ltb 2048 (before + n) (omega arith)) refl
 
-  pub contour_points : before ≤ 2048 → n ≤ 2048 - before → {r : Scan} → r ≡ scan_points ws n before (at + 1) → r ≡ scan_contour ws before at
+  pub contour_points : before ≤ 2048 → n ≤ 2048 - before → {r : Scanned} → r ≡ scan_points ws n before (at + 1) → r ≡ scan_contour ws before at
   unfolding read_contour and_then
   contour_points b h e = e ∙ rw (c.read, le-ltb 2048 (before + n) (omega arith)) refl
 
 -- ---- groups: what remains to be read, with enough steps for it
-abbrev scan_words : List ℤ → Scan
+abbrev scan_words : List ℤ → Scanned
 scan_words ws = scan_of (length ws) points_in 0 (read_words ws)
 
 pub record Going (ws : List ℤ) (at before : ℕ) : Type 0 where
@@ -362,20 +366,20 @@ pub going_start : (ws : List ℤ) → Going ws 0 0
 unfolding read_words
 going_start ws = record { within = omega arith; few = omega arith; fuel = length ws; enough = omega arith; remaining = refl }
 
-pub going_end : {ws : List ℤ} {at before : ℕ} → Going ws at before → length ws ≤ at → scan.At at before ≡ scan_words ws
+pub going_end : {ws : List ℤ} {at before : ℕ} → Going ws at before → length ws ≤ at → scanned at before ≡ scan_words ws
 unfolding read_groups points_in
 going_end {ws} {at} {before} g h = sym (g.remaining ∙ rw (at_end ws at h) (none g.fuel))
   where
-    all : scan.At (length ws - 0) (before + 0) ≡ scan.At at before
+    all : scanned (length ws - 0) (before + 0) ≡ scanned at before
     all =
         let e : length ws - 0 ≡ at = omega (arith, g.within) in
-        ap (λ (k : ℕ). scan.At k (before + 0)) e ∙ ap (λ (n : ℕ). scan.At at n) (add-zero before)
+        ap (λ (k : ℕ). scanned k (before + 0)) e ∙ ap (λ (n : ℕ). scanned at n) (add-zero before)
 
-    none : (n : ℕ) → scan_of (length ws) points_in before (read_groups n before []) ≡ scan.At at before
+    none : (n : ℕ) → scan_of (length ws) points_in before (read_groups n before []) ≡ scanned at before
     none zero = all
     none (suc n) = all
 
-module _ {ws : List ℤ} {at before : ℕ} (g : Going ws at before) (h : at < length ws) {r : Scan} (is : r ≡ scan_group ws before at) where
+module _ {ws : List ℤ} {at before : ℕ} (g : Going ws at before) (h : at < length ws) {r : Scanned} (is : r ≡ scan_group ws before at) where
   some_fuel : (n : ℕ) × (g.fuel ≡ suc n)
   some_fuel = let e = g.enough in let q : g.fuel ≡ suc (g.fuel - 1) = omega arith in (g.fuel - 1, q)
 
@@ -388,13 +392,13 @@ module _ {ws : List ℤ} {at before : ℕ} (g : Going ws at before) (h : at < le
   unfolding read_groups
   one_more n = rw (at_word ws at h) refl
 
-  pub going_fault : {f : Fault} → r ≡ scan.Refused f → scan.Refused f ≡ scan_words ws
+  pub going_fault : {f : Fault} → r ≡ Err f → Err f ≡ scan_words ws
   unfolding and_then
   going_fault {f} e =
       let x = scan_fault (length ws) group_points before (read_group before (drop at ws)) f (sym is ∙ e) in
       sym (open_fuel ∙ ap (scan_of (length ws) points_in before) (one_more some_fuel.0) ∙ rw x refl)
 
-  module _ {next more : ℕ} (e : r ≡ scan.At next more) where
+  module _ {next more : ℕ} (e : r ≡ scanned next more) where
     w : Went (length ws) group_points before (read_group before (drop at ws)) next more
     w = scan_at (length ws) group_points before (read_group before (drop at ws)) next more (sym is ∙ e)
 

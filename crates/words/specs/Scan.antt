@@ -1,14 +1,14 @@
 -- How the code hands on what is read (word_list/specs/Words.antt): by a place of the list instead of the words behind
 -- it, and by how many points there were instead of the points. Definitions only.
-use Rattle.std.specs.Prelude.{List, [], ℕ, ◌+◌, ◌-◌, ℤ, pos, length, drop}
+use Rattle.std.specs.Prelude.{List, [], ℕ, ◌+◌, ◌-◌, ℤ, pos, length, drop, Result, Ok, Err}
+use Rattle.fault.specs.declared.Fault.{Fault}
 use Rattle.word_list.specs.Words.{Point, Group, Read, ok, fault, read_or, read_points, read_contours}
 use Rattle.words.specs.declared.Scan.{Scan}
-use Rattle.words.specs.declared.Scan.TheVariants as scan
 
 -- in a list of `total` words, behind `before` points; `points` counts those of what was read
-abbrev pub scan_of : {A : Type 0} → ℕ → (A → ℕ) → ℕ → Read A → Scan
-scan_of total points before (ok a rest) = scan.At (total - length rest) (before + points a)
-scan_of total points before (fault f) = scan.Refused f
+abbrev pub scan_of : {A : Type 0} → ℕ → (A → ℕ) → ℕ → Read A → Result Scan Fault
+scan_of total points before (ok a rest) = Ok (record { at = total - length rest; points = before + points a })
+scan_of total points before (fault f) = Err f
 
 -- ---- a list that was checked is read again when it is drawn
 

@@ -8,14 +8,13 @@ ghost use Rattle.word_reader.specs.Reader.{checked_of};
 ghost use Rattle.words.specs.Scan.{scan_of};
 ghost use Rattle.word_list.specs.Words.{group_points};
 
-use fault::Fault;
-use word_reader::{Checked, Counted};
+use fault::{Check, Fault};
 
 // How reading goes on: at a place of the list, behind so many of its points.
 #[derive(Clone, Copy)]
-pub enum Scan {
-    At(usize, usize),
-    Refused(Fault),
+pub struct Scan {
+    pub at: usize,
+    pub points: usize,
 }
 
 impl Scan {
@@ -24,102 +23,76 @@ impl Scan {
 }
 
 // The pair of coordinates at a place.
-fn point_at(words: &[i32], at: usize) -> Checked
+fn point_at(words: &[i32], at: usize) -> Check
     ensures { result ≡ checked_of (read_point (drop at words.now)) }
 {
     let point = word_reader::pair_at(words, at);
-    let x = point.first;
-    let y = point.second;
-    match x.coordinate() {
-        Checked::Refused(f) => Checked::Refused(f),
-        Checked::Good => y.coordinate(),
-    }
+    word_reader::coordinate(point.first)?;
+    word_reader::coordinate(point.second)
 }
 
-// The n points of a contour, behind `before` points of the list.
-fn points_at(words: &[i32], from: usize, n: usize, before: usize) -> Scan
-    requires { (before + n ≤ 2048) × (from ≤ length words.now) }
-    ensures { result ≡ scan_of (length words.now) length before (read_points n (drop from words.now)) }
+// The n points of a contour.
+fn points_at(words: &[i32], from: Scan, n: usize) -> Result<Scan, Fault>
+    requires { (from.points + n ≤ 2048) × (from.at ≤ length words.now) }
+    ensures { result ≡ scan_of (length words.now) length from.points (read_points n (drop from.at words.now)) }
 {
-    let mut at = from;
-    let mut remaining = n;
-    while 0 < remaining {
-        match point_at(words, at) {
-            Checked::Refused(f) => return Scan::Refused(f),
-            Checked::Good => {
-                at += 2;
-            }
-        }
-        remaining -= 1;
+    for i in 0..n {
+        point_at(words, from.at + 2 * i)?;
     }
-    Scan::At(at, before + n)
+    Ok(Scan {
+        at: from.at + 2 * n,
+        points: from.points + n,
+    })
 }
 
 // A contour.
-fn contour_at(words: &[i32], from: usize, before: usize) -> Scan
-    requires { before ≤ 2048 }
-    ensures { result ≡ scan_of (length words.now) length before (read_contour before (drop from words.now)) }
+fn contour_at(words: &[i32], from: Scan) -> Result<Scan, Fault>
+    requires { from.points ≤ 2048 }
+    ensures { result ≡ scan_of (length words.now) length from.points (read_contour from.points (drop from.at words.now)) }
 {
-    match word_reader::count_at(words, from) {
-        Counted::Refused(f) => Scan::Refused(f),
-        Counted::Count(n) => {
-            if Scan::MOST_POINTS - before < n {
-                Scan::Refused(Fault::CountOutOfRange)
-            } else {
-                points_at(words, from + 1, n, before)
-            }
-        }
+    let n = word_reader::count_at(words, from.at)?;
+    if Scan::MOST_POINTS - from.points < n {
+        return Err(Fault::CountOutOfRange);
     }
+    let first = Scan {
+        at: from.at + 1,
+        points: from.points,
+    };
+    points_at(words, first, n)
 }
 
 // n contours.
-fn contours_at(words: &[i32], from: usize, n: usize, before: usize) -> Scan
-    requires { (before ≤ 2048) × (from ≤ length words.now) }
-    ensures { result ≡ scan_of (length words.now) points_of before (read_contours n before (drop from words.now)) }
+fn contours_at(words: &[i32], from: Scan, n: usize) -> Result<Scan, Fault>
+    requires { (from.points ≤ 2048) × (from.at ≤ length words.now) }
+    ensures { result ≡ scan_of (length words.now) points_of from.points (read_contours n from.points (drop from.at words.now)) }
 {
-    let mut at = from;
-    let mut points = before;
-    let mut remaining = n;
-    while 0 < remaining {
-        match contour_at(words, at, points) {
-            Scan::Refused(f) => return Scan::Refused(f),
-            Scan::At(next, more) => {
-                at = next;
-                points = more;
-            }
-        }
-        remaining -= 1;
+    let mut scan = from;
+    for _ in 0..n {
+        scan = contour_at(words, scan)?;
     }
-    Scan::At(at, points)
+    Ok(scan)
 }
 
 // A group. Where its rule is missing, so is its count.
-fn group_at(words: &[i32], from: usize, before: usize) -> Scan
-    requires { before ≤ 2048 }
-    ensures { result ≡ scan_of (length words.now) group_points before (read_group before (drop from words.now)) }
+fn group_at(words: &[i32], from: Scan) -> Result<Scan, Fault>
+    requires { from.points ≤ 2048 }
+    ensures { result ≡ scan_of (length words.now) group_points from.points (read_group from.points (drop from.at words.now)) }
 {
-    let head = word_reader::head_at(words, from);
-    let contours = head.contours;
-    match contours {
-        Counted::Refused(f) => Scan::Refused(f),
-        Counted::Count(n) => contours_at(words, from + 2, n, before),
-    }
+    let n = word_reader::head_at(words, from.at).contours?;
+    let first = Scan {
+        at: from.at + 2,
+        points: from.points,
+    };
+    contours_at(words, first, n)
 }
 
 // The whole list.
-pub fn read_words(words: &[i32]) -> Scan
+pub fn read_words(words: &[i32]) -> Result<Scan, Fault>
     ensures { result ≡ scan_of (length words.now) points_in 0 (read_words words.now) }
 {
-    let mut at = 0;
-    let mut points = 0;
-    while at < words.len() {
-        match group_at(words, at, points) {
-            Scan::Refused(f) => return Scan::Refused(f),
-            Scan::At(next, more) => {
-                at = next;
-                points = more;
-            }
-        }
+    let mut scan = Scan { at: 0, points: 0 };
+    while scan.at < words.len() {
+        scan = group_at(words, scan)?;
     }
-    Scan::At(at, points)
+    Ok(scan)
 }

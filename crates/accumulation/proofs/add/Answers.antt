@@ -1,18 +1,9 @@
 -- `accumulation::add` meets its contract: one cell changes, and it is marked. Assumes nothing.
-use native.Mathlib.Omega.{arith}
 use lib.ListN.{length-set}
 use Rattle.accumulation.proofs.Marks.{ready_marked}
 use Rattle.accumulation.proofs.Adding.{add_in, add_none, add_out, set_apart}
 use Rattle.accumulation.proofs.add.Goals as goal
 use Rattle.accumulation.proofs.add.Goals.{else-cell-cells-via-then-cell-cells+else-area, else-cell-cells-via-else-cell-cells}
-
-pub mark-requires : goal.mark-requires
-mark-requires c =
-    let p = c.requires in
-    record {
-      n_nonzero = (omega arith, omega arith);
-      cell_bound = (omega (arith, p.narrow), omega (arith, p.narrow, p.words));
-    }
 
 pub returns-then-area : goal.returns-then-area
 returns-then-area c =

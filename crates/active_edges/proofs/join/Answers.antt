@@ -4,20 +4,7 @@ use native.Mathlib.Omega.{arith}
 use lib.ListN.{length}
 use borrow.Author.Rules.{scaled_Fits}
 use Rattle.active_edges.proofs.Joining.{join_start, join_room, join_falls, join_turn, join_done}
-use borrow.Author.Rules.{rules}
 use Rattle.active_edges.proofs.join.Goals as goal
-
-pub offset_bounds-heads-row : goal.offset_bounds-heads-row
-offset_bounds-heads-row c = let i = c.requires.inside in search rules
-
-pub bounds-heads-row : goal.bounds-heads-row
-bounds-heads-row c = let i = c.requires.inside in omega arith
-
-pub offset_bounds-heads-row-2 : goal.offset_bounds-heads-row-2
-offset_bounds-heads-row-2 c = let i = c.requires.inside in search rules
-
-pub bounds-heads-row-2 : goal.bounds-heads-row-2
-bounds-heads-row-2 c = let i = c.requires.inside in omega arith
 
 pub loop-at-init : goal.loop-at-init
 loop-at-init c = join_start c.requires
@@ -30,12 +17,6 @@ overflow_add-l c = let r = join_room c.requires c.loop-at.invariant c.loop-at-te
 
 pub load-e-requires : goal.load-e-requires
 load-e-requires c = let r = join_room c.requires c.loop-at.invariant c.loop-at-test.true in omega arith
-
-pub overflow_mul-n : goal.overflow_mul-n
-overflow_mul-n c = let r = join_room c.requires c.loop-at.invariant c.loop-at-test.true in omega arith
-
-pub overflow_add-l-in-loop-at : goal.overflow_add-l-in-loop-at
-overflow_add-l-in-loop-at c = let r = join_room c.requires c.loop-at.invariant c.loop-at-test.true in omega arith
 
 pub store-requires : goal.store-requires
 store-requires c = let r = join_room c.requires c.loop-at.invariant c.loop-at-test.true in omega arith
@@ -55,9 +36,6 @@ bounds-floats-next c =
     let k = c.store.auto.floats in
     omega arith
 
-pub overflow_add-n : goal.overflow_add-n
-overflow_add-n c = let r = join_room c.requires c.loop-at.invariant c.loop-at-test.true in omega arith
-
 pub loop-at-smaller : goal.loop-at-smaller
 loop-at-smaller c =
     join_falls c.requires c.loop-at.invariant c.loop-at-test.true
@@ -67,9 +45,6 @@ pub loop-at-preserved : goal.loop-at-preserved
 loop-at-preserved c =
     join_turn c.requires c.loop-at.invariant c.loop-at-test.true
     c.load-e.ensures c.store.ensures c.to_column-at.ensures
-
-pub shape_of-floats : goal.shape_of-floats
-shape_of-floats c = c.loop-at.invariant.long
 
 pub returns : goal.returns
 returns c =

@@ -16,12 +16,12 @@ both [] a b h = absurd (omega arith)
 both (x ∷ []) a b h = absurd (omega arith)
 both (x ∷ y ∷ rest) a b h = refl
 
-pub returns-in-Read : goal.returns-in-Read
-returns-in-Read c =
-    let r = c.in-Read.read in
+pub returns-in-Ok : goal.returns-in-Ok
+returns-in-Ok c =
+    let r = c.in-Ok.read in
     let x : SFits w32 r.corner.x = search rules in
     let y : SFits w32 r.corner.y = search rules in
-    rw (c.in-Read.is, to_z-of_z w32 r.corner.x x, to_z-of_z w32 r.corner.y y)
+    rw (c.in-Ok.is, to_z-of_z w32 r.corner.x x, to_z-of_z w32 r.corner.y y)
     (record {
       value = refl;
       size_after = both c.args.size.now r.size.width r.size.height c.requires.0;

@@ -1,15 +1,16 @@
--- `boxes::first_place` meets its contract: what is found so far, and the boxes that are left, give the answer.
+-- `boxes::first_place` meets its contract: the place found so far, and the boxes that are left, give the answer.
 -- Assumes nothing.
-use Rattle.std.proofs.Common.{◌≡◌, ◌-◌, ◌≤◌, length, drop}
-use Rattle.boxes.proofs.Walking.{SoFar}
+use Rattle.std.proofs.Common.{◌≡◌, ◌≤◌, ◌<◌, length, drop, Bool, ℕ}
+use Rattle.std.specs.Prelude.{Some}
+use Rattle.shape.specs.declared.RoundedBox.{RoundedBox}
+use Rattle.boxes.specs.First.{Tells, first_place_of}
+use Rattle.boxes.proofs.Walking.{result_of}
 use Rattle.boxes.proofs.first_place.Given as goal
 
-abbrev pub invariant-loop-ask : goal.invariant-loop-ask
-invariant-loop-ask l = record {
-  within : l.i ≤ l.n;
-  all : l.n ≡ length l.boxes;
-  so_far : SoFar l.boxes l.ask l.i (drop l.i l.boxes) l.found;
+abbrev pub invariant-loop-i : goal.invariant-loop-i
+invariant-loop-i g l = record {
+  few : length l.boxes ≤ 4096;
+  below : (k : ℕ) → l.found ≡ Some k → k < l.i;
+  so_far : (test : RoundedBox → Bool) → Tells (goal.F-post g l.asks) test
+      → first_place_of l.boxes test ≡ result_of l.found l.i (drop l.i l.boxes) test;
 }
-
-abbrev pub decreases-loop-ask : goal.decreases-loop-ask
-decreases-loop-ask l = l.n - l.i

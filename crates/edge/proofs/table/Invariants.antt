@@ -5,6 +5,3 @@ use Rattle.edge.proofs.table.Given as goal
 
 abbrev pub invariant-loop-i : goal.invariant-loop-i
 invariant-loop-i l = TableAt l.initial.floats l.initial.heads l.l l.floats l.heads l.i
-
-abbrev pub decreases-loop-i : goal.decreases-loop-i
-decreases-loop-i l = l.i

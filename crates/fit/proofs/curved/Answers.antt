@@ -1,27 +1,25 @@
 -- `fit::curved` meets its contract: the closing line stands behind the segments. Assumes nothing.
+use mathlib.Core.Path.{ap}
 use native.Mathlib.Omega.{arith}
-use mathlib.Core.Path.{◌≡◌}
-use mathlib.Core.List.{List}
-use Rattle.outline.specs.declared.Piece.{Piece}
-use Rattle.outline.specs.Contour.{Contour, Walked, reached}
-use Rattle.outline.specs.Kept.{Stored, StoredAt}
-use Rattle.fit.proofs.Closing.{curved_is}
+use lib.ListN.{length}
+use Rattle.fit.proofs.Closing.{counted, stored_is, curved_back, curved_on}
 use Rattle.fit.proofs.curved.Goals as goal
+use Rattle.fit.proofs.curved.Goals.{then-not-same_place, else-not-same_place}
 
--- what is stored of a walk that reached its end
-of_reached : {z : Walked} {k : Contour} (pieces : List Piece) → z ≡ reached k → Stored z pieces → StoredAt k pieces
-of_reached pieces e s = rw e at s
-
-pub offset_bounds-all-at : goal.offset_bounds-all-at
-offset_bounds-all-at c = let l = c.requires.count_lt_most_verbs.0 in omega arith
-
-pub bounds-all-at : goal.bounds-all-at
-bounds-all-at c = c.requires.count_lt_most_verbs.0
-
-pub rounded-requires : goal.rounded-requires
-rounded-requires c = c.requires.count_lt_most_verbs.1
+pub push-requires : goal.push-requires
+push-requires c =
+    let r = c.requires.reached in
+    let same = ap length (stored_is r.led c.segments-segments.ensures) in
+    let count = counted r.contour r.stands in
+    let fits = c.requires.count_lt_most_verbs in
+    (omega arith, omega arith)
 
 pub returns : goal.returns
-returns c = λ k led stands counts.
-    let fits = c.requires.count_lt_most_verbs.0 in
-    curved_is stands (of_reached c.segments-list.result.pieces led c.segments-list.ensures) fits counts c.rounded.ensures
+returns c = λ k led stands.
+    let kept = stored_is led c.segments-segments.ensures in
+    let same = c.same_place.ensures in
+    elim c.if-not-same_place.branch [
+      | then-not-same_place w ↦
+          curved_on k stands same kept w.if-not-same_place.true (rw (← w.push.ensures.items, ← w.segments-is, ← c.deref.ensures.0) c.rounded.ensures)
+      | else-not-same_place w ↦ curved_back k stands same kept w.if-not-same_place.false (rw (← w.segments-is, ← c.deref.ensures.0) c.rounded.ensures)
+    ]

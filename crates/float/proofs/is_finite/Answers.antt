@@ -1,9 +1,7 @@
--- `float::is_finite` meets its contract, by the laws of proofs/Simple.antt. Assumes nothing.
-use Rattle.float.proofs.Simple.{finite_both, finite_not}
+-- `float::is_finite` meets its contract. Assumes nothing.
+use Rattle.std.proofs.Common.{◌∙◌}
+use Rattle.float.proofs.Methods.{finite_is}
 use Rattle.float.proofs.is_finite.Goals as goal
 
-pub returns-then-x-top : goal.returns-then-x-top
-returns-then-x-top c = rw c.infinity-top.ensures (finite_both c.args.x (rw c.infinity-top.ensures at c.if-x-top.true))
-
 pub returns : goal.returns
-returns c = finite_not c.args.x (rw c.infinity-top.ensures at c.if-x-top.false)
+returns c = c.is_finite.ensures.value ∙ finite_is c.args.x

@@ -7,16 +7,17 @@ use Rattle.ink.proofs.Kept.{kept_zeros, kept_all}
 use Rattle.groups.proofs.Cleared.{prefix, floats_long, counters_long, cleared_room, cleared_clean, cleared_zeros}
 use Rattle.groups.proofs.draw.Goals as goal
 
-pub slice_bounds-clear_floats-end-2 : goal.slice_bounds-clear_floats-end-2
-slice_bounds-clear_floats-end-2 c = prefix c.requires.room
+pub slice_bounds-fill-end-2 : goal.slice_bounds-fill-end-2
+slice_bounds-fill-end-2 c = prefix c.requires.room
 
 pub draw_groups-requires : goal.draw_groups-requires
 draw_groups-requires c =
-    let bytes = c.clear_bytes.ensures in
     let args = c.args in
-    let floats = c.clear_floats.ensures in
-    let counters = c.clear_counters.ensures in
-    let kept = kept_zeros (length args.mask.now) (length args.ink.now) bytes c.clear.ensures (c.clear.auto.ink ∙ c.requires.ink_len) in
+    let bytes = c.fill.ensures.after (λ y e. e) in
+    let ink = c.fill-2.ensures.after (λ y e. e) in
+    let floats = c.fill-3.ensures.after (λ y e. e) in
+    let counters = c.fill-4.ensures.after (λ y e. e) in
+    let kept = kept_zeros (length args.mask.now) (length args.ink.now) bytes ink (c.fill-2.auto.self ∙ c.requires.ink_len) in
     record {
       room = cleared_room c.requires.room bytes floats counters;
       clean = cleared_clean c.requires.room bytes floats counters;
@@ -27,13 +28,13 @@ draw_groups-requires c =
 
 pub returns : goal.returns
 returns c =
-    let bytes = c.clear_bytes.ensures in
     let room = c.requires.room in
-    let floats = c.clear_floats.ensures in
-    let counters = c.clear_counters.ensures in
+    let bytes = c.fill.ensures.after (λ y e. e) in
+    let floats = c.fill-3.ensures.after (λ y e. e) in
+    let counters = c.fill-4.ensures.after (λ y e. e) in
     record {
       mask_after = c.draw_groups.ensures.mask_after;
-      floats_after = c.clear_floats-2.ensures ∙ ap (λ (n : ℕ). replicate n f0) (c.draw_groups.auto.floats ∙ floats_long room bytes floats counters);
-      counters_after = c.clear_counters-2.ensures ∙ ap (λ (n : ℕ). replicate n 0) (c.draw_groups.auto.counters ∙ counters_long room bytes floats counters);
+      floats_after = c.fill-5.ensures.after (λ y e. e) ∙ ap (λ (n : ℕ). replicate n f0) (c.draw_groups.auto.floats ∙ floats_long room bytes floats counters);
+      counters_after = c.fill-6.ensures.after (λ y e. e) ∙ ap (λ (n : ℕ). replicate n 0) (c.draw_groups.auto.counters ∙ counters_long room bytes floats counters);
       ink_after = kept_all c.draw_groups.ensures.ink_kept_2;
     }

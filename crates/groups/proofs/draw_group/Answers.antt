@@ -15,7 +15,7 @@ pub contours-stored-requires : goal.contours-stored-requires
 contours-stored-requires c =
     let room = c.requires.room in
     let group = c.requires.group_fine in
-    let read = group_read group c.head_at-head.ensures.1 c.in-Count.is in
+    let read = group_read group c.head_at-head.ensures.1 c.in-Ok.is in
     record {
       fine = contours_fine room group read;
       from_in_bounds = contours_inside room group read;
@@ -29,7 +29,7 @@ resolve-requires c =
     let group = c.requires.group_fine in
     let long = c.contours-stored.auto.floats in
     let rule = c.head_at-head.ensures.0 ∙ ap is_even_odd (sym (word_here args.words.now args.at group.inside)) in
-    let read = group_read group c.head_at-head.ensures.1 c.in-Count.is in
+    let read = group_read group c.head_at-head.ensures.1 c.in-Ok.is in
     record {
       room = stored_room room group read long c.contours-stored.ensures.pushed;
       clean = stored_clean room group read long c.contours-stored.ensures.pushed c.requires.clean;
@@ -43,7 +43,7 @@ returns c =
     let room = c.requires.room in
     let group = c.requires.group_fine in
     let rule = c.head_at-head.ensures.0 ∙ ap is_even_odd (sym (word_here args.words.now args.at group.inside)) in
-    let read = group_read group c.head_at-head.ensures.1 c.in-Count.is in
+    let read = group_read group c.head_at-head.ensures.1 c.in-Ok.is in
     record {
       mask_after = c.resolve.ensures.mask_after (group_at args.words.now args.at) (stored room group read c.contours-stored.auto.floats c.contours-stored.ensures.pushed rule);
       value = c.contours-stored.ensures.at_value ∙ contours_end room group read;

@@ -1,11 +1,6 @@
 -- `ink::end_in` meets its contract. Assumes nothing.
-use Prim.Native.Nat.{◌-◌}
-use lib.ListN.{length}
 use Rattle.ink.proofs.Blocks.{EndSoFar}
 use Rattle.ink.proofs.end_in.Given as goal
 
 abbrev pub invariant-loop-i : goal.invariant-loop-i
 invariant-loop-i l = EndSoFar l.block l.end l.i
-
-abbrev pub decreases-loop-i : goal.decreases-loop-i
-decreases-loop-i l = length l.block - l.i

@@ -1,11 +1,9 @@
 -- `ink::grown` meets its contract, by the law that pins a row's stretch. Assumes nothing.
 use Prim.Native.Nat.{◌<◌}
 use native.Mathlib.Omega.{arith}
+use Rattle.ink.proofs.Bytes.{min_either, max_either}
 use Rattle.ink.proofs.Growing.{grown_none, part_low, part_none, grown_first, grown_more}
 use Rattle.ink.proofs.grown.Goals as goal
-
-pub returns-then-to-from : goal.returns-then-to-from
-returns-then-to-from c = λ before e g. grown_none (λ k h l. absurd (omega arith)) e g
 
 pub returns-then-part-eq0 : goal.returns-then-part-eq0
 returns-then-part-eq0 c = λ before e g.
@@ -38,4 +36,5 @@ returns c = λ before is g.
     let args = c.args in
     let up : args.from < args.to = omega arith in
     grown_more args.line.now args.from args.to up (omega arith) c.ink_of-part.ensures (λ z. omega arith) g is (λ z. omega arith)
-    c.lesser_column.ensures c.greater_column.ensures
+    (let m = c.min.ensures in (omega arith, omega arith, rw m (min_either _ _)))
+    (let m = c.max.ensures in (omega arith, omega arith, rw m (max_either _ _)))

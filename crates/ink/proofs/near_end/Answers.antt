@@ -5,9 +5,6 @@ use native.Mathlib.Omega.{arith}
 use Rattle.ink.proofs.Bytes.{passed_more, part_long, part_passed}
 use Rattle.ink.proofs.near_end.Goals as goal
 
-pub returns-then-to-lt-BLOCK : goal.returns-then-to-lt-BLOCK
-returns-then-to-lt-BLOCK c = passed_more c.blank_back.ensures c.blank_back-to.ensures
-
 pub returns : goal.returns
 returns c =
     let line = c.args.line.now in

@@ -5,9 +5,6 @@ use native.Mathlib.Omega.{arith}
 use Rattle.ink.proofs.Bytes.{passed_more, part_passed}
 use Rattle.ink.proofs.near_first.Goals as goal
 
-pub returns-then-line-from-lt-BLOCK : goal.returns-then-line-from-lt-BLOCK
-returns-then-line-from-lt-BLOCK c = passed_more c.blank_front-from.ensures c.blank_front.ensures
-
 pub returns : goal.returns
 returns c =
     let line = c.args.line.now in

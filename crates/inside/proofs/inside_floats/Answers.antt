@@ -1,16 +1,16 @@
 -- `inside::inside_floats` meets its contract. Assumes nothing.
+use Rattle.std.proofs.Common.{rules}
 use Rattle.boxes.specs.Lent.{boxes_in}
-use Rattle.boxes.proofs.Finished.{place_fits}
+use Rattle.inside.specs.Finish.{lies_outside_of}
 use Rattle.inside.proofs.Finished.{finishes}
 use Rattle.inside.proofs.inside_floats.Goals as goal
-
-pub finish-requires : goal.finish-requires
-finish-requires c =
-    let a = c.args in
-    rw c.first_place_in-found.ensures (place_fits (boxes_in a.floats.now a.n) c.outside_ask-asked.result)
 
 pub returns : goal.returns
 returns c =
     let a = c.args in
-    rw (c.finish.ensures, c.first_place_in-found.ensures, c.outside_ask-asked.ensures)
+    rw (
+      c.finish.ensures,
+      c.first_place_in-found.ensures.first (λ b. lies_outside_of c.coverage_unchecked-area.result b) (λ b r h. search rules),
+      c.coverage_unchecked-area.ensures,
+    )
     (finishes (boxes_in a.floats.now a.n) a.safe a.fringe)

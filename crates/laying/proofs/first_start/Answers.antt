@@ -16,13 +16,6 @@ offset_is offset fits = rw (to_z-of_z w32 offset fits) (to_z-of_z w64 offset (wi
 width_is : (width : ℕ) → width ≤ 4096 → to_z w64 width ≡ pos width
 width_is width h = to_z_pos w64 width (omega arith)
 
-pub overflow_cast-result : goal.overflow_cast-result
-overflow_cast-result c = rw (to_z-of_z w32 c.args.offset c.ranges.offset) (wider c.args.offset c.ranges.offset)
-
-pub overflow_mul-result : goal.overflow_mul-result
-overflow_mul-result c =
-    rw (offset_is c.args.offset c.ranges.offset, width_is c.args.width c.requires) (first_fits c.args.offset c.args.width c.ranges.offset c.requires)
-
 pub returns : goal.returns
 returns c =
     rw (offset_is c.args.offset c.ranges.offset, width_is c.args.width c.requires)

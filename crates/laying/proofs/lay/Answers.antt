@@ -32,11 +32,6 @@ begun_is offset width fits wide e =
 pub loop-row-init : goal.loop-row-init
 loop-row-init c = (changed_start c.requires.size_allowed.1, kept_start)
 
-pub overflow_add-to : goal.overflow_add-to
-overflow_add-to c =
-    let r = line_room c.loop-row.invariant.0 c.loop-row-test.true in
-    omega (arith, c.loop-row.invariant.0.long)
-
 pub slice_bounds-lay_row-end : goal.slice_bounds-lay_row-end
 slice_bounds-lay_row-end c = line_room c.loop-row.invariant.0 c.loop-row-test.true
 

@@ -16,6 +16,7 @@ use Rattle.laying.specs.Lines.{row_met}
 use Rattle.laying.specs.Starts.{rows_met, MetRowStart}
 use Rattle.laying.proofs.Rows.{row_above, row_below, row_on}
 use Rattle.laying.proofs.lay_row.Goals as goal
+use Rattle.laying.proofs.lay_row.Goals.{then-row-y-via-then-row-y, then-row-y-via-else-row-y+then-rows-row}
 
 -- where a row of the other mask is met
 record Met (y : Start) (size : Size) (other : List ℕ) (start : ℤ) (row : ℕ) : Type 0 where
@@ -36,13 +37,13 @@ met y size other start row rows fits long is few past below =
 pub returns-then-row-y : goal.returns-then-row-y
 returns-then-row-y c =
     let args = c.args in
-    c.clear_bytes.ensures ∙ sym (row_above args.x args.y args.size args.other.now args.row args.line.now (omega arith))
-
-pub returns-then-rows-row : goal.returns-then-rows-row
-returns-then-rows-row c =
-    let args = c.args in
     let past = c.requires.met_row_start.1 in
-    c.clear_bytes-then-rows-row.ensures ∙ sym (row_below args.x args.y args.size args.other.now args.row args.line.now (omega arith) (omega arith))
+    let cleared = c.fill.ensures.after (λ y e. e) in
+    elim c.then-row-y.branch [
+      | then-row-y-via-then-row-y w ↦ cleared ∙ sym (row_above args.x args.y args.size args.other.now args.row args.line.now w.if-row-y.true)
+      | then-row-y-via-else-row-y+then-rows-row w ↦
+          cleared ∙ sym (row_below args.x args.y args.size args.other.now args.row args.line.now w.if-row-y.false (omega (arith, w.if-rows-row.true)))
+    ]
 
 pub overflow_cast-from : goal.overflow_cast-from
 overflow_cast-from c =

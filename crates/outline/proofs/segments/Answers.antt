@@ -1,56 +1,43 @@
 -- `outline::segments` meets its contract: the walk so far stands for a contour, from which the verbs left lead to
--- where all lead, and its segments are stored. Assumes nothing.
-use mathlib.Core.Path.{refl, sym, ◌∙◌}
-use Rattle.outline.proofs.Scan.{floats_next}
-use Rattle.outline.proofs.Contouring.{begins, count_fits, bad_byte, room, stops, goes}
-use Rattle.outline.proofs.Storing.{none_stored, pieces_kept, pieces_all}
-use native.Mathlib.Omega.{arith}
+-- where all lead, and its segments are kept. Assumes nothing.
+use mathlib.Core.Path.{sym, ap, ◌∙◌}
+use Prim.Native.Nat.{◌*◌}
+use Rattle.outline.proofs.Contouring.{has_room, bad_byte, room, stops, goes}
+use Rattle.outline.proofs.Storing.{piece_kept, pieces_kept, pieces_all}
 use Rattle.outline.proofs.segments.Goals as goal
-
-pub loop-i-init : goal.loop-i-init
-loop-i-init c = begins (none_stored refl) c.requires.verbs_value c.new-walk.ensures
-
-pub bounds-verbs-i : goal.bounds-verbs-i
-bounds-verbs-i c = c.loop-i-test.true
+use Rattle.outline.proofs.segments.Goals.{then-next-walk, else-next-walk}
 
 pub returns-in_default : goal.returns-in_default
 returns-in_default c =
-    rw (bad_byte c.loop-i.invariant c.loop-i-test.true (sym c.from_byte.ensures ∙ c.in_default.is)) tt
+    rw (bad_byte c.loop-byte.invariant c.loop-byte-test.true (sym c.try_from.ensures ∙ c.in_default.is)) tt
 
 pub from_packed-verb-requires : goal.from_packed-verb-requires
 from_packed-verb-requires c =
-    room c.loop-i.invariant c.loop-i-test.true (sym c.from_byte.ensures ∙ c.in-Verb.is)
-
-pub offset_bounds-pieces-n : goal.offset_bounds-pieces-n
-offset_bounds-pieces-n c = let n = count_fits c.loop-i.invariant c.loop-i-test.true c.requires.verbs_len_bound in omega arith
-
-pub bounds-pieces-n : goal.bounds-pieces-n
-bounds-pieces-n c = count_fits c.loop-i.invariant c.loop-i-test.true c.requires.verbs_len_bound
+    room c.loop-byte.invariant c.loop-byte-test.true (sym c.try_from.ensures ∙ c.in-Ok.is)
 
 pub step-requires : goal.step-requires
-step-requires c = let n = count_fits c.loop-i.invariant c.loop-i-test.true c.requires.verbs_len_bound in omega arith
+step-requires c = has_room c.loop-byte.invariant c.args.outline.few
 
 pub returns-in_default-step : goal.returns-in_default-step
 returns-in_default-step c =
-    let u = sym c.from_byte.ensures ∙ c.in-Verb.is in
-    rw (stops c.loop-i.invariant c.loop-i-test.true u c.from_packed-verb.ensures c.step.ensures c.in_default-step.is) tt
+    let u = sym c.try_from.ensures ∙ c.in-Ok.is in
+    rw (stops c.loop-byte.invariant c.loop-byte-test.true u c.from_packed-verb.ensures c.step.ensures c.in_default-step.is) tt
 
-pub overflow_add-at : goal.overflow_add-at
-overflow_add-at c =
-    let next = floats_next c.args.verbs.now c.loop-i.i c.loop-i-test.true in
-    let left = c.loop-i.invariant.left in
-    let takes = c.floats-at.ensures in
-    omega (arith, c.well_formed.1.0)
-
-pub loop-i-preserved : goal.loop-i-preserved
-loop-i-preserved c =
-    let u = sym c.from_byte.ensures ∙ c.in-Verb.is in
-    let keeps = pieces_kept c.loop-i.invariant (count_fits c.loop-i.invariant c.loop-i-test.true c.requires.verbs_len_bound) c.from_packed-verb.result c.candidate-segment.ensures in
-    goes c.loop-i.invariant c.loop-i-test.true u c.from_packed-verb.ensures c.step.ensures c.in-Go.is
-    c.floats-at.ensures keeps
-
-pub loop-i-smaller : goal.loop-i-smaller
-loop-i-smaller c = let l = c.loop-i-test.true in omega arith
+pub loop-byte-preserved : goal.loop-byte-preserved
+loop-byte-preserved c =
+    let u = sym c.try_from.ensures ∙ c.in-Ok.is in
+    let s = c.loop-byte.invariant in
+    let v = c.from_packed-verb.result in
+    let more = c.loop-byte-test.true in
+    let takes = ap (λ n. 2 * n) c.num_coordinates.ensures in
+    elim c.if-next-walk.branch [
+      | then-next-walk w ↦
+          let keeps = piece_kept s v c.step.ensures c.in-Some.is w.candidate.ensures w.if-next-walk.true in
+          rw (w.segments-is, w.push.ensures.items) (goes s more u c.from_packed-verb.ensures c.step.ensures c.in-Some.is takes keeps)
+      | else-next-walk w ↦
+          let keeps = pieces_kept s v c.step.ensures c.in-Some.is w.if-next-walk.false in
+          rw w.segments-is (goes s more u c.from_packed-verb.ensures c.step.ensures c.in-Some.is takes keeps)
+    ]
 
 pub returns : goal.returns
-returns c = pieces_all c.loop-i.invariant c.loop-i-test.false
+returns c = pieces_all c.loop-byte.invariant c.loop-byte-test.false

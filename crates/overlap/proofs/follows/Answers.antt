@@ -1,29 +1,7 @@
--- `overlap::follows` meets its contract: every point passed so far is near. Assumes nothing.
-use Rattle.shape.proofs.All.{none_yet, one_more, one_out, all_passed}
-use native.Mathlib.Omega.{arith}
+-- `overlap::follows` meets its contract. Assumes nothing.
+use Rattle.std.proofs.Common.{rules}
+use Rattle.overlap.specs.Overlap.{near_of}
 use Rattle.overlap.proofs.follows.Goals as goal
 
-pub loop-i-init : goal.loop-i-init
-loop-i-init c = none_yet
-
-pub outline_point-requires : goal.outline_point-requires
-outline_point-requires c = c.loop-i-test.true
-
-pub overflow_add-i : goal.overflow_add-i
-overflow_add-i c = let l = c.loop-i-test.true in omega arith
-
-pub loop-i-smaller : goal.loop-i-smaller
-loop-i-smaller c = let l = c.loop-i-test.true in omega arith
-
-pub loop-i-preserved : goal.loop-i-preserved
-loop-i-preserved c =
-    one_more c.loop-i.invariant c.loop-i-test.true
-    (rw (← c.outline_point.ensures, ← c.near.ensures) c.if-near.true)
-
-pub returns-else-near : goal.returns-else-near
-returns-else-near c =
-    one_out c.loop-i.invariant c.loop-i-test.true
-    (rw (← c.outline_point.ensures, ← c.near.ensures) c.if-near.false)
-
 pub returns : goal.returns
-returns c = all_passed c.loop-i.invariant c.loop-i-test.false
+returns c = c.every_outline_point.ensures (λ p. near_of c.args.mine c.args.theirs c.args.slack p) (λ p r h. search rules)

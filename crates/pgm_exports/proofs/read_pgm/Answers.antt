@@ -1,4 +1,5 @@
 -- `pgm_exports::read_pgm` meets its contract. Assumes nothing.
+use Rattle.std.specs.Prelude.{Result, Ok, Err}
 use mathlib.Core.Path.{◌≡◌, refl, ◌∙◌}
 use mathlib.Core.Bool.{true}
 use mathlib.Core.Logic.{◌⊎◌, inl, inr}
@@ -8,31 +9,31 @@ use lib.IntN.{ℤ}
 use lib.ListN.{length}
 use borrow.Author.Tests.{le-ltb}
 use Rattle.ink.specs.Lent.{lent}
-use Rattle.pgm.specs.declared.ReadAnswer.{ReadAnswer}
-use Rattle.pgm.specs.declared.ReadAnswer.TheVariants as read
 use Rattle.pgm.specs.Calls.{read_call, mask_after_reading, ink_after_reading}
 use Rattle.boundary.specs.Answers.{size_after, corner_after}
 use Rattle.pgm_exports.specs.Calls.{record_short}
 use Rattle.pgm_exports.proofs.Laws.{short_true}
 use Rattle.pgm_exports.proofs.read_pgm.Goals as goal
+use Rattle.fault.specs.declared.Fault.{Fault}
 use Rattle.pgm_exports.proofs.read_pgm.Goals.{then-size-lt-SIZE-via-then-size-lt-SIZE, then-size-lt-SIZE-via-else-size-lt-SIZE+then-corner-lt-CORNER}
+use Rattle.cells.specs.declared.MaskRecord.{MaskRecord}
 
 -- where too little is lent for the record, nothing is changed
-mask_kept : (a : ReadAnswer) (file mask : List ℕ) → mask ≡ mask_after_reading (record_short true a) file mask
-mask_kept (read.Read r) file mask = refl
-mask_kept (read.Refused f) file mask = refl
+mask_kept : (a : Result MaskRecord Fault) (file mask : List ℕ) → mask ≡ mask_after_reading (record_short true a) file mask
+mask_kept (Ok r) file mask = refl
+mask_kept (Err f) file mask = refl
 
-ink_kept : (a : ReadAnswer) (mask ink : List ℕ) → ink ≡ ink_after_reading (record_short true a) mask ink
-ink_kept (read.Read r) mask ink = refl
-ink_kept (read.Refused f) mask ink = refl
+ink_kept : (a : Result MaskRecord Fault) (mask ink : List ℕ) → ink ≡ ink_after_reading (record_short true a) mask ink
+ink_kept (Ok r) mask ink = refl
+ink_kept (Err f) mask ink = refl
 
-size_kept : (a : ReadAnswer) (lent : List ℕ) → lent ≡ size_after (record_short true a) lent
-size_kept (read.Read r) lent = refl
-size_kept (read.Refused f) lent = refl
+size_kept : (a : Result MaskRecord Fault) (lent : List ℕ) → lent ≡ size_after (record_short true a) lent
+size_kept (Ok r) lent = refl
+size_kept (Err f) lent = refl
 
-corner_kept : (a : ReadAnswer) (lent : List ℤ) → lent ≡ corner_after (record_short true a) lent
-corner_kept (read.Read r) lent = refl
-corner_kept (read.Refused f) lent = refl
+corner_kept : (a : Result MaskRecord Fault) (lent : List ℤ) → lent ≡ corner_after (record_short true a) lent
+corner_kept (Ok r) lent = refl
+corner_kept (Err f) lent = refl
 
 pub returns-then-size-lt-SIZE : goal.returns-then-size-lt-SIZE
 returns-then-size-lt-SIZE c =

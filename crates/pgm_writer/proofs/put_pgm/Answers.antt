@@ -19,13 +19,6 @@ module _ (size : Size) (raster file : List ℕ) {f : List ℕ} {p : ℕ} (long :
   room : p + length raster ≤ length f
   room = omega (arith, wrote_long header, length-append (header_text size) raster)
 
-pub put_header-at-requires : goal.put_header-at-requires
-put_header-at-requires c =
-    omega (arith, c.requires, length-append (header_text c.args.size) c.args.raster.now)
-
-pub put_bytes-requires : goal.put_bytes-requires
-put_bytes-requires c = room c.args.size c.args.raster.now c.args.file.now c.requires c.put_header-at.ensures.value c.put_header-at.ensures.file_after
-
 pub returns : goal.returns
 returns c =
     let front = header c.args.size c.args.raster.now c.args.file.now c.requires c.put_header-at.ensures.value c.put_header-at.ensures.file_after in

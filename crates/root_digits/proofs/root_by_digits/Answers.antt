@@ -13,40 +13,34 @@ small : {a steps left root rest i : ℕ} → Digits a steps left root rest i →
     → (rest ≤ 2 * root) × (root < 2 ^ 54) × (left / 2 ^ 62 < 4)
 small d more h = (d.within, root_fits d more h, pair_lt d more)
 
-pub loop-i-init : goal.loop-i-init
-loop-i-init c = start c.args.a c.args.steps (omega arith)
+pub loop-step-init : goal.loop-step-init
+loop-step-init c = start c.args.a c.args.steps (omega arith)
 
 pub overflow_mul-rest : goal.overflow_mul-rest
-overflow_mul-rest c = omega (arith, small c.loop-i.invariant c.loop-i-test.true c.requires)
+overflow_mul-rest c = omega (arith, small c.loop-step.invariant c.loop-step-test.true c.requires)
 
 pub overflow_add-rest : goal.overflow_add-rest
-overflow_add-rest c = omega (arith, small c.loop-i.invariant c.loop-i-test.true c.requires)
+overflow_add-rest c = omega (arith, small c.loop-step.invariant c.loop-step-test.true c.requires)
 
 pub overflow_mul-left : goal.overflow_mul-left
 overflow_mul-left c = omega arith
 
 pub overflow_mul-trial : goal.overflow_mul-trial
-overflow_mul-trial c = omega (arith, small c.loop-i.invariant c.loop-i-test.true c.requires)
+overflow_mul-trial c = omega (arith, small c.loop-step.invariant c.loop-step-test.true c.requires)
 
 pub overflow_add-trial : goal.overflow_add-trial
-overflow_add-trial c = omega (arith, small c.loop-i.invariant c.loop-i-test.true c.requires)
+overflow_add-trial c = omega (arith, small c.loop-step.invariant c.loop-step-test.true c.requires)
 
 pub overflow_mul-root : goal.overflow_mul-root
-overflow_mul-root c = omega (arith, small c.loop-i.invariant c.loop-i-test.true c.requires)
+overflow_mul-root c = omega (arith, small c.loop-step.invariant c.loop-step-test.true c.requires)
 
 pub overflow_add-root : goal.overflow_add-root
-overflow_add-root c = omega (arith, small c.loop-i.invariant c.loop-i-test.true c.requires)
+overflow_add-root c = omega (arith, small c.loop-step.invariant c.loop-step-test.true c.requires)
 
-pub overflow_add-i : goal.overflow_add-i
-overflow_add-i c = let p = c.requires in let t = c.loop-i-test.true in omega arith
-
-pub loop-i-smaller : goal.loop-i-smaller
-loop-i-smaller c = let t = c.loop-i-test.true in omega arith
-
-pub loop-i-preserved : goal.loop-i-preserved
-loop-i-preserved c =
-    let d = c.loop-i.invariant in
-    let m = c.loop-i-test.true in
+pub loop-step-preserved : goal.loop-step-preserved
+loop-step-preserved c =
+    let d = c.loop-step.invariant in
+    let m = c.loop-step-test.true in
     elim c.if-trial-rest.branch [
       | then-trial-rest w ↦ rw (w.root-is, w.rest-is) (step_one d m w.if-trial-rest.true)
       | else-trial-rest w ↦ rw (w.root-is, w.rest-is) (step_zero d m w.if-trial-rest.false)
@@ -54,10 +48,10 @@ loop-i-preserved c =
 
 pub returns : goal.returns
 returns c =
-    let d = c.loop-i.invariant in
-    let e : c.loop-i.i ≡ c.args.steps = le_antisymm d.upto c.loop-i-test.false in
+    let d = c.loop-step.invariant in
+    let e : c.loop-step._step ≡ c.args.steps = le_antisymm d.upto c.loop-step-test.false in
     record {
       square = d.square ∙ ap (λ (i : ℕ). c.args.a * 4 ^ i / 2 ^ 64) e;
       left = d.within;
-      short = subst (λ (i : ℕ). c.loop-i.root < 2 ^ i) e d.short;
+      short = subst (λ (i : ℕ). c.loop-step.root < 2 ^ i) e d.short;
     }

@@ -1,11 +1,7 @@
 -- `root_digits::root_by_digits` meets its contract: proofs/RootLoop.antt has the invariant and shows that a turn keeps
 -- it. Assumes nothing.
-use Prim.Native.Nat.{◌-◌}
 use Rattle.root_digits.proofs.RootLoop.{Digits}
 use Rattle.root_digits.proofs.root_by_digits.Given as goal
 
-abbrev pub invariant-loop-i : goal.invariant-loop-i
-invariant-loop-i l = Digits l.a l.steps l.left l.root l.rest l.i
-
-abbrev pub decreases-loop-i : goal.decreases-loop-i
-decreases-loop-i l = l.steps - l.i
+abbrev pub invariant-loop-step : goal.invariant-loop-step
+invariant-loop-step l = Digits l.a l.steps l.left l.root l.rest l._step

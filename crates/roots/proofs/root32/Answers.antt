@@ -1,5 +1,6 @@
 -- `roots::root32` meets its contract, by the laws of proofs/Rooting.antt over the width. Assumes nothing.
-use Rattle.roots.proofs.Rooting.{digits_pos, rounded_le, rounded_ge, root_of}
+use Rattle.root_digits.proofs.Halves.{rounded_le, rounded_ge}
+use Rattle.roots.proofs.Rooting.{digits_pos, root_of}
 use lib.Ieee.Positive.{positive-finite}
 use mathlib.Core.Logic.{inl, inr}
 use mathlib.Core.Path.{refl, ◌∙◌}

@@ -1,20 +1,20 @@
 -- `roots::sqrt` meets its contract, by the laws of proofs/Rooting.antt. Assumes nothing.
 use Rattle.roots.proofs.Rooting.{at_top, above, at_zero, no_root}
-use lib.Ieee.{binary32, of_bits, div}
+use lib.Ieee.{binary32, of_bits}
 use Rattle.roots.proofs.sqrt.Goals as goal
 
-pub returns-then-x-infinity : goal.returns-then-x-infinity
-unfolding of_bits div
-returns-then-x-infinity c = at_top binary32 c.args.x (rw c.infinity.ensures at c.if-x-infinity.true)
+pub returns-then-x-2 : goal.returns-then-x-2
+unfolding of_bits
+returns-then-x-2 c = at_top binary32 c.args.x c.if-x-2.true
 
 pub root32-requires : goal.root32-requires
-unfolding of_bits div
-root32-requires c = above c.args.x c.if-x.true (rw c.infinity.ensures at c.if-x-infinity.false)
+unfolding of_bits
+root32-requires c = above c.args.x c.if-x.true c.if-x-2.false
 
-pub returns-then-x-2 : goal.returns-then-x-2
-unfolding of_bits div
-returns-then-x-2 c = at_zero binary32 c.args.x c.if-x-2.true
+pub returns-then-x-3 : goal.returns-then-x-3
+unfolding of_bits
+returns-then-x-3 c = at_zero binary32 c.args.x c.if-x-3.true
 
 pub returns : goal.returns
-unfolding of_bits div
-returns c = no_root binary32 c.args.x c.if-x.false c.if-x-2.false
+unfolding of_bits
+returns c = no_root binary32 c.args.x c.if-x.false c.if-x-3.false

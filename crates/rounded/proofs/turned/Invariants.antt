@@ -1,14 +1,13 @@
 -- `rounded::turned` meets its contract: the turns passed so far, and the last angle. Assumes nothing.
-use Prim.Native.Nat.{◌-◌}
+use Prim.Native.Nat.{◌+◌}
 use mathlib.Core.Path.{◌≡◌}
-use Rattle.outline.specs.Kept.{point_at}
-use Rattle.samples.proofs.Folds.{Paired}
+use lib.ListN.{get_or, take}
+use Rattle.std.specs.Float.{nan}
+use Rattle.samples.specs.Folds.{pairs_of}
 use Rattle.rounded.specs.Turning.{angle_of, step_of, turned_by, no_turn}
 use Rattle.rounded.proofs.turned.Given as goal
 
-abbrev pub invariant-loop-i : goal.invariant-loop-i
-invariant-loop-i l =
-    Paired (λ t p q. turned_by t (step_of (angle_of l.a p) (angle_of l.a q))) no_turn l.xs l.ys l.n l.i l.t × (l.last ≡ angle_of l.a (point_at l.xs l.ys (l.i - 1)))
-
-abbrev pub decreases-loop-i : goal.decreases-loop-i
-decreases-loop-i l = l.n - l.i
+abbrev pub invariant-loop-p : goal.invariant-loop-p
+invariant-loop-p l =
+    (l.t ≡ pairs_of (λ t p q. turned_by t (step_of (angle_of l.a p) (angle_of l.a q))) no_turn (take (l.p-index + 1) l.outline))
+    × (l.last ≡ angle_of l.a (get_or l.outline l.p-index (record { x = nan; y = nan })))

@@ -1,17 +1,19 @@
--- `samples::anchors` meets its contract: the start and the ends of the segments passed so far are stored. Assumes
+-- `samples::anchors` meets its contract: the points that are held, and the ends of the segments that are left. Assumes
 -- nothing.
-use lib.ListN.{length-set}
-use Rattle.samples.proofs.Outlining.{anchors_begin, anchors_go, anchors_end, first_is}
+use Rattle.std.proofs.Common.{◌≡◌, ◌∙◌, ◌++◌, arith, length-append, append_assoc}
+use Rattle.samples.proofs.Outlining.{ends_left, ends_none}
 use Rattle.samples.proofs.anchors.Goals as goal
 
-pub loop-i-init : goal.loop-i-init
-loop-i-init c = anchors_begin (rw length-set c.requires.0) (rw length-set c.requires.1)
-
-pub loop-i-preserved : goal.loop-i-preserved
-loop-i-preserved c =
-    anchors_go c.loop-i.invariant c.loop-i-test.true c.requires.2 c.end-p.ensures
+pub loop-segment-preserved : goal.loop-segment-preserved
+loop-segment-preserved c =
+    let s = c.loop-segment.invariant in
+    let n = s.count in
+    record {
+      count = rw (c.push-in-loop-segment.ensures.items, length-append) (omega arith);
+      left =
+          rw (c.push-in-loop-segment.ensures.items, append_assoc, c.end.ensures, ← ends_left c.args.segments.now c.loop-segment.segment-index _ c.loop-segment-test.true)
+          s.left;
+    }
 
 pub returns : goal.returns
-returns c =
-    let a = c.args in
-    anchors_end c.loop-i.invariant c.loop-i-test.false (first_is a.start a.xs.now a.ys.now c.requires.0 c.requires.1)
+returns c = ends_none _ c.loop-segment-test.false c.loop-segment.invariant.left

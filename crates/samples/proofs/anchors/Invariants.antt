@@ -1,11 +1,11 @@
--- `samples::anchors` meets its contract: the start and the ends of the segments passed so far are stored. Assumes
+-- `samples::anchors` meets its contract: the points that are held, and the ends of the segments that are left. Assumes
 -- nothing.
-use Prim.Native.Nat.{◌-◌}
-use Rattle.samples.proofs.Outlining.{Anchoring}
+use Rattle.std.proofs.Common.{◌≡◌, ◌+◌, ◌++◌, length, drop}
+use Rattle.samples.specs.Samples.{ends_of, anchors_of}
 use Rattle.samples.proofs.anchors.Given as goal
 
-abbrev pub invariant-loop-i : goal.invariant-loop-i
-invariant-loop-i l = Anchoring l.initial.xs l.initial.ys l.pieces l.count l.xs l.ys l.i
-
-abbrev pub decreases-loop-i : goal.decreases-loop-i
-decreases-loop-i l = l.count - l.i
+abbrev pub invariant-loop-segment : goal.invariant-loop-segment
+invariant-loop-segment l = record {
+  count : length l.points.items ≡ l.segment-index + 1;
+  left : l.points.items ++ ends_of (drop l.segment-index l.segments) ≡ anchors_of l.fn.start l.segments;
+}

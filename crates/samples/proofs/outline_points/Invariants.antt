@@ -1,10 +1,11 @@
--- `samples::outline_points` meets its contract: the points of the segments passed so far are stored. Assumes nothing.
-use Prim.Native.Nat.{◌-◌}
-use Rattle.samples.proofs.Outlining.{Outlining}
+-- `samples::outline_points` meets its contract: the points that are held, and those of the segments that are left.
+-- Assumes nothing.
+use Rattle.std.proofs.Common.{◌≡◌, ◌≤◌, ◌+◌, ◌*◌, ◌++◌, length, drop}
+use Rattle.samples.specs.Samples.{outline_from, outline_of}
 use Rattle.samples.proofs.outline_points.Given as goal
 
-abbrev pub invariant-loop-i : goal.invariant-loop-i
-invariant-loop-i l = Outlining l.initial.from l.pieces l.count l.xs l.ys l.from l.at l.i
-
-abbrev pub decreases-loop-i : goal.decreases-loop-i
-decreases-loop-i l = l.count - l.i
+abbrev pub invariant-loop-segment : goal.invariant-loop-segment
+invariant-loop-segment l = record {
+  room : length l.points.items ≤ 8 * l.segment-index + 1;
+  left : l.points.items ++ outline_from l.from (drop l.segment-index l.segments) ≡ outline_of l.fn.start l.segments;
+}

@@ -2,12 +2,14 @@
 use mathlib.Core.Path.{◌≡◌, sym, ap, ◌∙◌}
 use Prim.Native.Nat.{ℕ, ◌-◌, ◌*◌, ◌%◌, ◌^◌}
 use native.Mathlib.Omega.{arith}
+use lib.Ieee.{of_bits, div}
 use Rattle.float.proofs.Shift.{one_shl}
 use Rattle.float.proofs.Tests.{holds}
 use Rattle.sweep.proofs.Modulo.{no_number, even, below_two, between}
 use Rattle.sweep.proofs.modulo_two.Goals as goal
 
 pub returns-then-not-is_finite : goal.returns-then-not-is_finite
+unfolding of_bits div
 returns-then-not-is_finite c = no_number c.args.winding (sym c.is_finite.ensures ∙ c.if-not-is_finite.true)
 
 pub returns-then-parts-ge150 : goal.returns-then-parts-ge150

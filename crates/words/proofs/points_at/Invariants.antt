@@ -1,9 +1,7 @@
 -- `words::points_at` meets its contract. Assumes nothing.
+use Prim.Native.Nat.{◌+◌, ◌-◌, ◌*◌}
 use Rattle.words.proofs.Steps.{PointsAt}
 use Rattle.words.proofs.points_at.Given as goal
 
-abbrev pub invariant-loop-remaining : goal.invariant-loop-remaining
-invariant-loop-remaining l = PointsAt l.words l.from l.n l.before l.at l.remaining
-
-abbrev pub decreases-loop-remaining : goal.decreases-loop-remaining
-decreases-loop-remaining l = l.remaining
+abbrev pub invariant-loop-i : goal.invariant-loop-i
+invariant-loop-i l = PointsAt l.words l.from.at l.n l.from.points (l.from.at + 2 * l.i) (l.n - l.i)

@@ -4,8 +4,8 @@ use lib.ListN.{length}
 use Rattle.words.proofs.Steps.{Going}
 use Rattle.words.proofs.read_words.Given as goal
 
-abbrev pub invariant-loop-at : goal.invariant-loop-at
-invariant-loop-at l = Going l.words l.at l.points
+abbrev pub invariant-loop-scan : goal.invariant-loop-scan
+invariant-loop-scan l = Going l.words l.scan.at l.scan.points
 
-abbrev pub decreases-loop-at : goal.decreases-loop-at
-decreases-loop-at l = length l.words - l.at
+abbrev pub decreases-loop-scan : goal.decreases-loop-scan
+decreases-loop-scan l = length l.words - l.scan.at

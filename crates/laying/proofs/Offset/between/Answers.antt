@@ -18,14 +18,6 @@ Exact a b = SFits w32 (machine a b) × (to_z w32 (of_z w32 (machine a b)) ≡ a 
 exact : (a b : ℤ) → SFits w32 a → SFits w32 b → SFits w32 (a -ℤ b) → Exact a b
 exact a b p q d = rw (to_z-of_z w32 a p, to_z-of_z w32 b q) (d, to_z-of_z w32 (a -ℤ b) d)
 
-pub overflow_sub-result : goal.overflow_sub-result
-overflow_sub-result c =
-    (exact c.args.own.x c.args.other.x (search rules) (search rules) (difference_fits c.args.own.x c.args.other.x c.requires.0.0 c.requires.1.0)).0
-
-pub overflow_sub-result-2 : goal.overflow_sub-result-2
-overflow_sub-result-2 c =
-    (exact c.args.own.y c.args.other.y (search rules) (search rules) (difference_fits c.args.own.y c.args.other.y c.requires.0.1 c.requires.1.1)).0
-
 pub returns : goal.returns
 returns c =
     let across = exact c.args.own.x c.args.other.x (search rules) (search rules) (difference_fits c.args.own.x c.args.other.x c.requires.0.0 c.requires.1.0) in

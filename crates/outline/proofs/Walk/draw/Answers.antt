@@ -1,20 +1,6 @@
 -- `outline::Walk::draw` meets its contract. Assumes nothing.
-use Rattle.outline.proofs.Walking.{draw_shut, draw_same, draw_line, draw_curve}
+use Rattle.outline.proofs.Walking.{draw_line, draw_curve}
 use Rattle.outline.proofs.Walk.draw.Goals as goal
-
-pub returns-then-shut : goal.returns-then-shut
-returns-then-shut c = λ k e. draw_shut k e c.shut.ensures c.args.segment c.if-shut.true
-
-pub returns-then-same_place : goal.returns-then-same_place
-returns-then-same_place c =
-    λ k e.
-    draw_same k e c.shut.ensures c.if-shut.false c.in-Line.is c.same_place.ensures c.if-same_place.true
-
-pub pushed-requires : goal.pushed-requires
-pushed-requires c = c.requires
-
-pub pushed-requires-in-Cubic : goal.pushed-requires-in-Cubic
-pushed-requires-in-Cubic c = c.requires
 
 pub returns-else-same_place : goal.returns-else-same_place
 returns-else-same_place c =

@@ -1,2 +1,0 @@
--- Patterns: which bit patterns are no NaN's.
-mod Patterns
