@@ -28,7 +28,7 @@ pub fn read(out: &mut impl Write, record: MaskRecord) -> io::Result<()> {
 // ---- boxes and coverages
 
 fn no_box(out: &mut impl Write) -> io::Result<()> {
-    writeln!(out, "nobox")
+    out.write_all(b"nobox\n")
 }
 
 fn ten_floats(b: RoundedBox) -> [f32; 10] {
@@ -117,7 +117,7 @@ pub fn bounds(out: &mut impl Write, b: Bounds) -> io::Result<()> {
 pub fn reach(out: &mut impl Write, found: Option<Bounds>) -> io::Result<()> {
     match found {
         Some(b) => bounds(out, b),
-        None => writeln!(out, "everywhere"),
+        None => out.write_all(b"everywhere\n"),
     }
 }
 
@@ -128,13 +128,13 @@ pub fn distance(out: &mut impl Write, x: f32) -> io::Result<()> {
 pub fn touch(out: &mut impl Write, frame: Option<u16>) -> io::Result<()> {
     match frame {
         Some(place) => writeln!(out, "frame {place}"),
-        None => writeln!(out, "noframe"),
+        None => out.write_all(b"noframe\n"),
     }
 }
 
 pub fn inside(out: &mut impl Write, found: Option<Inside>) -> io::Result<()> {
     match found {
-        Some(Inside::All) => writeln!(out, "inside"),
+        Some(Inside::All) => out.write_all(b"inside\n"),
         Some(Inside::Outside(place)) => writeln!(out, "outside {place}"),
         None => no_box(out),
     }

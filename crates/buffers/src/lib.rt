@@ -11,6 +11,8 @@ pub const MOST_BYTES: usize = 65536;
 pub const MOST_INK: usize = 8200;
 // The numbers of an ink buffer at first: enough for every mask.
 const FIRST_INK: usize = 8192;
+// How many elements a list grows by at a time.
+const BLOCK: usize = 256;
 
 // A mask buffer and its ink buffer.
 #[derive(Drop)]
@@ -21,9 +23,11 @@ pub struct Buffers {
 
 impl Buffers {
     pub fn new() -> Self {
+        let mut ink = ArrayVec::new();
+        refill(&mut ink, 7, &[7; BLOCK], FIRST_INK);
         Buffers {
             mask: ArrayVec::new(),
-            ink: alike(7, FIRST_INK),
+            ink,
         }
     }
 }
@@ -53,63 +57,89 @@ impl Held {
     }
 }
 
-// So many elements, all alike, as far as there is room.
-fn alike<T: Copy + Default + Drop, const N: usize>(element: T, length: usize) -> ArrayVec<T, N> {
-    let mut list = ArrayVec::new();
-    for _ in 0..length {
-        let _ = list.try_push(element);
-    }
-    list
-}
-
 // ---- filled
 
-// The bytes of a line's last field, in pairs of hexadecimal digits.
-pub fn read_bytes(mut fields: Fields) -> Result<ArrayVec<u8, MOST_BYTES>, Problem> {
+// Makes a list so long, as far as there is room, with each element the same: a block holds some of them.
+fn refill<T: Copy + Default + Drop, const N: usize>(
+    list: &mut ArrayVec<T, N>,
+    element: T,
+    block: &[T],
+    length: usize,
+) {
+    list.truncate(length);
+    for place in list.as_mut_slice() {
+        *place = element;
+    }
+    let more = length.saturating_sub(list.len());
+    for _ in 0..more / BLOCK {
+        let _ = list.try_extend_from_slice(block);
+    }
+    if let Some(rest) = block.get(..more % BLOCK) {
+        let _ = list.try_extend_from_slice(rest);
+    }
+}
+
+// Reads the bytes of a line's last field, in pairs of hexadecimal digits, into a list, if nothing is wrong.
+pub fn read_bytes(mut fields: Fields, bytes: &mut ArrayVec<u8, MOST_BYTES>) -> Result<(), Problem> {
     let field = fields.next().ok_or(Problem::FieldMissing)?;
     let digits = if field == b"-".as_slice() { &[] } else { field };
     if digits.len() % 2 != 0 || !digits.iter().all(u8::is_ascii_hexdigit) {
         return Err(Problem::NotHex);
     }
-    // Pairs of digits fail only where there is no room for all.
-    let mut bytes = alike(0, digits.len() / 2);
-    hex::decode_to_slice(digits, bytes.as_mut_slice()).map_err(|_| Problem::BufferTooLong)?;
+    if digits.len() / 2 > MOST_BYTES {
+        return Err(Problem::BufferTooLong);
+    }
     fields.at_end()?;
-    Ok(bytes)
+    refill(bytes, 0, &[0; BLOCK], digits.len() / 2);
+    // Pairs of digits do not fail where there is room for all.
+    hex::decode_to_slice(digits, bytes.as_mut_slice()).map_err(|_| Problem::NotHex)
 }
 
 pub fn buf(out: &mut impl Write, buffers: &mut Buffers, fields: Fields) -> Result<(), Failure> {
-    buffers.mask = read_bytes(fields)?;
+    read_bytes(fields, &mut buffers.mask)?;
     Ok(writing::done(out)?)
 }
 
-// A length and a number: so many of it, if there is room for them and if it is an element.
-fn read_alike<T: TryFrom<usize> + Copy + Default + Drop, const N: usize>(
+// A length and a number, if there is room for so many of it and if it is an element.
+fn read_alike<T: TryFrom<usize> + Drop>(
     mut fields: Fields,
+    most: usize,
     too_long: Problem,
     too_large: Problem,
-) -> Result<ArrayVec<T, N>, Problem>
+) -> Result<(usize, T), Problem>
 where
     T::Error: Drop,
 {
     let length = fields.natural()?;
     let number = fields.natural()?;
-    if length > N {
+    if length > most {
         return Err(too_long);
     }
     let element = T::try_from(number).map_err(|_| too_large)?;
     fields.at_end()?;
-    Ok(alike(element, length))
+    Ok((length, element))
 }
 
 pub fn bufn(out: &mut impl Write, buffers: &mut Buffers, fields: Fields) -> Result<(), Failure> {
-    buffers.mask = read_alike(fields, Problem::BufferTooLong, Problem::NotAByte)?;
+    let (length, byte) = read_alike::<u8>(
+        fields,
+        MOST_BYTES,
+        Problem::BufferTooLong,
+        Problem::NotAByte,
+    )?;
+    refill(&mut buffers.mask, byte, &[byte; BLOCK], length);
     Ok(writing::done(out)?)
 }
 
 // Makes an ink buffer so long, each number the same.
 pub fn ink(out: &mut impl Write, buffers: &mut Buffers, fields: Fields) -> Result<(), Failure> {
-    buffers.ink = read_alike(fields, Problem::InkTooLong, Problem::NotSixteenBits)?;
+    let (length, number) = read_alike::<u16>(
+        fields,
+        MOST_INK,
+        Problem::InkTooLong,
+        Problem::NotSixteenBits,
+    )?;
+    refill(&mut buffers.ink, number, &[number; BLOCK], length);
     Ok(writing::done(out)?)
 }
 

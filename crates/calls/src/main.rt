@@ -3,11 +3,11 @@
 
 use buffers::Held;
 use fields::MOST_LINE;
-use input::Input;
+use input::Lines;
 use std::io::{self, Write};
 
 fn main(rt: HostRuntime) -> io::Result<()> {
-    let mut input = Input::new(rt.reader());
+    let mut input = Lines::new(rt.reader());
     let mut out = io::writer(&rt);
     let mut line = [0u8; MOST_LINE];
     let mut held = Held::new();

@@ -64,7 +64,8 @@ pub fn put_bytes(to: &mut [u8], at: usize, bytes: &[u8]) -> usize
     ensures value { result ≡ at + length bytes.now }
     ensures to_after { to.new ≡ over bytes.now at to.old }
 {
-    let end = at + bytes.len();
-    to[at..end].copy_from_slice(bytes);
-    end
+    for (i, byte) in bytes.iter().enumerate() {
+        to[at + i] = *byte;
+    }
+    at + bytes.len()
 }

@@ -1,6 +1,7 @@
 // Drawing, from a line to its answer.
 #![tactic(auto)]
 
+use arrayvec::ArrayVec;
 use buffers::Buffers;
 use cells::MaskRecord;
 use fields::Fields;
@@ -23,7 +24,8 @@ fn draw_record(
 ) -> Result<(), Failure> {
     let float_count = fields.natural()?.min(MOST_SCRATCH_FLOATS);
     let counter_count = fields.natural()?.min(MOST_SCRATCH_COUNTERS);
-    let words = fields.words()?;
+    let mut words = ArrayVec::new();
+    fields.words(&mut words)?;
     let mut floats = [0.5f32; MOST_SCRATCH_FLOATS];
     let mut counters = [7u64; MOST_SCRATCH_COUNTERS];
     mask::rasterize_into(

@@ -190,40 +190,43 @@ impl<'a> Fields<'a> {
         Ok(floats)
     }
 
-    // A number, which is at most so large, and so many values.
-    fn list<T: Value + Default + Drop, const N: usize>(
+    // A number, which is at most so large, and so many values, behind those of a list.
+    fn list<T: Value + Drop, const N: usize>(
         &mut self,
+        list: &mut ArrayVec<T, N>,
         most: usize,
         too_many: Problem,
-    ) -> Result<ArrayVec<T, N>, Problem> {
+    ) -> Result<(), Problem> {
         let count = self.natural()?;
         if count > most {
             return Err(too_many);
         }
-        let mut list = ArrayVec::new();
         for _ in 0..count {
             let _ = list.try_push(self.value()?);
         }
-        Ok(list)
+        Ok(())
     }
 
     // A number, and so many verbs.
-    pub fn verbs(&mut self) -> Result<ArrayVec<u8, MOST_VERBS>, Problem> {
-        self.list(MOST_VERBS, Problem::TooManyVerbs)
+    pub fn verbs(&mut self, verbs: &mut ArrayVec<u8, MOST_VERBS>) -> Result<(), Problem> {
+        self.list(verbs, MOST_VERBS, Problem::TooManyVerbs)
     }
 
     // A number, which is at most so large, and so many floats.
-    pub fn positions(&mut self, most: usize) -> Result<ArrayVec<f32, MOST_FLOATS>, Problem> {
-        self.list(most, Problem::TooManyFloats)
+    pub fn positions(
+        &mut self,
+        positions: &mut ArrayVec<f32, MOST_FLOATS>,
+        most: usize,
+    ) -> Result<(), Problem> {
+        self.list(positions, most, Problem::TooManyFloats)
     }
 
     // The rest of the line as words.
-    pub fn words(self) -> Result<ArrayVec<i32, MOST_WORDS>, Problem> {
-        let mut words = ArrayVec::new();
+    pub fn words(self, words: &mut ArrayVec<i32, MOST_WORDS>) -> Result<(), Problem> {
         for field in self {
             let word = signed(field).ok_or(Problem::NotANumber)?;
             words.try_push(word).map_err(|_| Problem::TooManyWords)?;
         }
-        Ok(words)
+        Ok(())
     }
 }

@@ -49,7 +49,10 @@ pub fn min(x: f32, y: f32) -> f32
 pub fn signum(x: f32) -> f32
     ensures { result ≡ signum_of x }
 {
-    x.signum()
+    if x.is_nan() {
+        return x;
+    }
+    if x.is_sign_negative() { -1.0 } else { 1.0 }
 }
 
 // Whether x is neither a NaN nor an infinity.

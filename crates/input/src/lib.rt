@@ -9,38 +9,45 @@ use writing::Failure;
 
 const CHUNK: usize = 65536;
 
-// A reader, and what is read of it and not yet used: a chunk's bytes from one place up to another.
-#[derive(Drop)]
-pub struct Input<R> {
-    reader: R,
-    chunk: [u8; CHUNK],
-    at: usize,
-    have: usize,
-    ghost in_order: { at ≤ have },
-    ghost in_chunk: { have ≤ 65536 },
+// What is read and not yet used: the bytes of a chunk from `at` up to `have`.
+#[derive(Clone, Copy)]
+pub struct Input {
+    pub at: usize,
+    pub have: usize,
 }
 
-impl<R: Read> Input<R> {
+// The lines of a reader, and the chunk of it that was read last.
+#[derive(Drop)]
+pub struct Lines<R> {
+    reader: R,
+    chunk: [u8; CHUNK],
+    input: Input,
+    ghost in_order: { input.at ≤ input.have },
+    ghost in_chunk: { input.have ≤ 65536 },
+}
+
+impl<R: Read> Lines<R> {
     pub fn new(reader: R) -> Self {
-        Input {
+        Lines {
             reader,
             chunk: [0; CHUNK],
-            at: 0,
-            have: 0,
+            input: Input { at: 0, have: 0 },
         }
     }
 
     // Reads more where all that was read is used: nothing where the input has ended.
     fn refill(&mut self) -> io::Result<()> {
-        if self.at == self.have {
-            self.at = 0;
-            self.have = self.reader.read(&mut self.chunk)?;
+        let Input { at, have } = self.input;
+        if at == have {
+            let have = self.reader.read(&mut self.chunk)?;
+            self.input = Input { at: 0, have };
         }
         Ok(())
     }
 
     fn unread(&self) -> &[u8] {
-        &self.chunk[self.at..self.have]
+        let Input { at, have } = self.input;
+        &self.chunk[at..have]
     }
 
     // Reads a line to a place that has room for the longest, if there is one more. The turns are counted,
@@ -66,7 +73,8 @@ impl<R: Read> Input<R> {
             }
             length = longer;
             let used = part.len() + usize::from(end.is_some());
-            self.at = self.have.min(self.at + used);
+            let Input { at, have } = self.input;
+            self.input.at = have.min(at + used);
             if end.is_some() {
                 break;
             }

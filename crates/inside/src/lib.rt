@@ -10,6 +10,7 @@ ghost use Rattle.boxes.specs.Lent.{boxes_in};
 ghost use Rattle.inside.specs.Finish.{lies_outside_of, inside_of, finish_of};
 ghost use Rattle.inside.specs.Inside.{inside_call};
 
+use boxes::Ask;
 use clip_coverage::ClipCoverage;
 use fault::Fault;
 use shape::RoundedBox;
@@ -30,6 +31,20 @@ fn lies_outside(area: Option<ClipCoverage>, b: RoundedBox) -> bool
     match area {
         Some(k) => !k.contains_unchecked(b),
         None => false,
+    }
+}
+
+// Whether a box lies outside a safe area.
+#[derive(Clone, Copy)]
+struct Outlying {
+    area: Option<ClipCoverage>,
+}
+
+impl Ask for Outlying {
+    ghost asks = { λ o b. lies_outside_of o.area b };
+
+    fn holds(&self, b: RoundedBox) -> bool {
+        lies_outside(self.area, b)
     }
 }
 
@@ -74,7 +89,7 @@ pub fn all_inside(
     ensures { result ≡ inside_call boxes.now safe fringe }
 {
     let area = covering::coverage_unchecked(safe, fringe);
-    let found = boxes::first_place(boxes, |b| lies_outside(area, b));
+    let found = boxes::first_place(boxes, &Outlying { area });
     finish(found, area, safe, fringe)
 }
 
@@ -90,6 +105,6 @@ pub fn inside_floats(
     ensures { result ≡ inside_call (boxes_in floats.now n) safe fringe }
 {
     let area = covering::coverage_unchecked(safe, fringe);
-    let found = boxes::first_place_in(floats, n, |b| lies_outside(area, b));
+    let found = boxes::first_place_in(floats, n, &Outlying { area });
     finish(found, area, safe, fringe)
 }

@@ -7,6 +7,8 @@ use writing::Failure;
 
 // How many floats a box takes.
 const BOX: usize = 10;
+// The floats of the most boxes that a line has.
+const LIST_FLOATS: usize = 2570;
 // The most boxes of a sheet: one more than a list may have.
 const MOST_SHEET: usize = 4097;
 // Their floats.
@@ -15,13 +17,13 @@ const SHEET_FLOATS: usize = 40970;
 // The list whose boxes a line has.
 fn listed<'s>(
     fields: &mut Fields,
-    sheet: &'s mut [f32; SHEET_FLOATS],
+    floats: &'s mut [f32; LIST_FLOATS],
 ) -> Result<&'s [f32], Problem> {
     let count = fields.natural()?;
     if count > MOST_BOXES {
         return Err(Problem::TooManyBoxes);
     }
-    let list = &mut sheet[..count * BOX];
+    let list = &mut floats[..count * BOX];
     for b in list.chunks_exact_mut(BOX) {
         b.copy_from_slice(&fields.floats::<BOX>()?);
     }
@@ -61,26 +63,37 @@ fn inside_list(out: &mut impl Write, list: &[f32], f: [f32; 11]) -> Result<(), F
     Ok(answers::inside(out, found)?)
 }
 
-// Answers the call that has a name, with the fields behind it.
-pub fn answer(out: &mut impl Write, name: &[u8], mut fields: Fields) -> Result<(), Failure> {
+fn touch(out: &mut impl Write, mut fields: Fields) -> Result<(), Failure> {
+    let mut floats = [0f32; LIST_FLOATS];
+    let list = listed(&mut fields, &mut floats)?;
+    touch_list(out, list, fields.last_floats()?)
+}
+
+fn touchn(out: &mut impl Write, mut fields: Fields) -> Result<(), Failure> {
     let mut sheet = [0f32; SHEET_FLOATS];
+    let list = copies(&mut fields, &mut sheet)?;
+    touch_list(out, list, fields.last_floats()?)
+}
+
+fn inside(out: &mut impl Write, mut fields: Fields) -> Result<(), Failure> {
+    let mut floats = [0f32; LIST_FLOATS];
+    let list = listed(&mut fields, &mut floats)?;
+    inside_list(out, list, fields.last_floats()?)
+}
+
+fn insiden(out: &mut impl Write, mut fields: Fields) -> Result<(), Failure> {
+    let mut sheet = [0f32; SHEET_FLOATS];
+    let list = copies(&mut fields, &mut sheet)?;
+    inside_list(out, list, fields.last_floats()?)
+}
+
+// Answers the call that has a name, with the fields behind it.
+pub fn answer(out: &mut impl Write, name: &[u8], fields: Fields) -> Result<(), Failure> {
     match name {
-        b"touch" => {
-            let list = listed(&mut fields, &mut sheet)?;
-            touch_list(out, list, fields.last_floats()?)
-        }
-        b"inside" => {
-            let list = listed(&mut fields, &mut sheet)?;
-            inside_list(out, list, fields.last_floats()?)
-        }
-        b"touchn" => {
-            let list = copies(&mut fields, &mut sheet)?;
-            touch_list(out, list, fields.last_floats()?)
-        }
-        b"insiden" => {
-            let list = copies(&mut fields, &mut sheet)?;
-            inside_list(out, list, fields.last_floats()?)
-        }
+        b"touch" => touch(out, fields),
+        b"touchn" => touchn(out, fields),
+        b"inside" => inside(out, fields),
+        b"insiden" => insiden(out, fields),
         _ => Err(Failure::Problem(Problem::UnknownCall)),
     }
 }

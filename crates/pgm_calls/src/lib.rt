@@ -1,6 +1,7 @@
 // The calls on PGM files, from a line to its answer.
 #![tactic(auto)]
 
+use arrayvec::ArrayVec;
 use buffers::{Buffers, MOST_BYTES};
 use fields::{Fields, Problem};
 use std::io::Write;
@@ -23,7 +24,8 @@ pub fn read_pgm(
     buffers: &mut Buffers,
     fields: Fields,
 ) -> Result<(), Failure> {
-    let file = buffers::read_bytes(fields)?;
+    let mut file = ArrayVec::new();
+    buffers::read_bytes(fields, &mut file)?;
     let record = pgm::read_pgm(
         file.as_slice(),
         buffers.mask.as_mut_slice(),

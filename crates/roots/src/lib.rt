@@ -5,10 +5,12 @@
 ghost use Rattle.std.specs.Prelude.{◌≡◌, ◌⊎◌, ◌^◌, ◌≤◌, ◌<◌, T};
 ghost use Rattle.std.specs.Float.{binary32, binary64};
 ghost use Rattle.std.specs.Float.Ieee.Positive.{positive};
+ghost use Rattle.root_digits.specs.Digits.{rounded_half};
 ghost use Rattle.roots.specs.Root.{sqrt_of, hypot_of};
 ghost use Rattle.roots.specs.Digits.{AlignedBy, RootParts};
 
 use float::Parts;
+use root_digits::Root;
 
 #[derive(Clone, Copy)]
 struct Aligned {
@@ -31,6 +33,13 @@ fn align(d: u64, e: u64) -> Aligned
     }
 }
 
+// Half of a root to the nearest whole number, ties to even.
+fn rounded(r: Root) -> u64
+    ensures { result ≡ rounded_half r.root r.rest }
+{
+    root_digits::round_root(r.root, r.rest)
+}
+
 // The root of d * 2 ^ e of a format's smallest values, to the `keep` digits of the format. The bias
 // is low + 64 - 2 * keep where the smallest value is 2 ^ -low: e in steps of a root's unit.
 fn root_parts(d: u64, e: u64, keep: u64, bias: u64) -> Parts
@@ -46,7 +55,7 @@ fn root_parts(d: u64, e: u64, keep: u64, bias: u64) -> Parts
     let r = root_digits::root_digits(up.a, keep + 1);
     Parts {
         negative: false,
-        digits: root_digits::round_root(r.root, r.rest),
+        digits: rounded(r),
         exponent: (e + bias - up.shift) / 2,
     }
 }

@@ -6,12 +6,29 @@
 
 ghost use Rattle.std.specs.Prelude.{◌*◌, ◌≤◌, length, ◌≡◌};
 ghost use Rattle.boxes.specs.Lent.{boxes_in};
+ghost use Rattle.covering.specs.Touches.{touches_of};
 ghost use Rattle.touch.specs.Finish.{finish_of};
 ghost use Rattle.touch.specs.Touch.{point_of, touch_call};
 
+use boxes::Ask;
 use fault::Fault;
 use geometry::Position;
 use shape::RoundedBox;
+
+// Whether a point touches a box.
+#[derive(Clone, Copy)]
+struct Touching {
+    fringe: f32,
+    p: Position,
+}
+
+impl Ask for Touching {
+    ghost asks = { λ t b. touches_of b t.fringe t.p };
+
+    fn holds(&self, b: RoundedBox) -> bool {
+        covering::touches_unchecked(b, self.fringe, self.p)
+    }
+}
 
 // The answer, where `found` is what the walk found: fringe and point are refused after the boxes, and the place has 16
 // bits.
@@ -31,7 +48,7 @@ pub fn touch(boxes: &[RoundedBox], fringe: f32, x: f32, y: f32) -> Result<Option
     ensures { result ≡ touch_call boxes.now fringe (point_of x y) }
 {
     let p = Position { x, y };
-    let found = boxes::first_place(boxes, |b| covering::touches_unchecked(b, fringe, p));
+    let found = boxes::first_place(boxes, &Touching { fringe, p });
     finish(found, fringe, p)
 }
 
@@ -48,6 +65,6 @@ pub fn touch_floats(
     ensures { result ≡ touch_call (boxes_in floats.now n) fringe (point_of x y) }
 {
     let p = Position { x, y };
-    let found = boxes::first_place_in(floats, n, |b| covering::touches_unchecked(b, fringe, p));
+    let found = boxes::first_place_in(floats, n, &Touching { fringe, p });
     finish(found, fringe, p)
 }

@@ -24,8 +24,13 @@ fn is_even_odd(word: Option<i32>) -> bool
 fn count(word: Option<i32>) -> Result<usize, Fault>
     ensures { result ≡ counted_of (read_count (alone_of word)) }
 {
-    let n = word.ok_or(Fault::ListEndsEarly)?;
-    usize::try_from(n).map_err(|_| Fault::CountOutOfRange)
+    let Some(n) = word else {
+        return Err(Fault::ListEndsEarly);
+    };
+    if n < 0 {
+        return Err(Fault::CountOutOfRange);
+    }
+    Ok(n as usize)
 }
 
 // Whether a coordinate lies beyond its limit.
@@ -41,7 +46,9 @@ fn is_beyond(x: i32) -> bool
 pub fn coordinate(word: Option<i32>) -> Check
     ensures { result ≡ checked_of (read_coordinate (alone_of word)) }
 {
-    let x = word.ok_or(Fault::ListEndsEarly)?;
+    let Some(x) = word else {
+        return Err(Fault::ListEndsEarly);
+    };
     if is_beyond(x) {
         return Err(Fault::CoordinateOutOfRange);
     }
@@ -66,7 +73,10 @@ pub struct Head {
 fn value_at(words: &[i32], at: usize) -> Option<i32>
     ensures { result ≡ word_of (drop at words.now) }
 {
-    words.get(at).copied()
+    if words.len() <= at {
+        return None;
+    }
+    Some(words[at])
 }
 
 // The place behind another, or the same where the list has ended.

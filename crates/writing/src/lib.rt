@@ -67,11 +67,12 @@ pub fn float_line(out: &mut impl Write, name: &str, parts: &[&[f32]]) -> io::Res
 }
 
 pub fn yes_or_no(out: &mut impl Write, holds: bool) -> io::Result<()> {
-    writeln!(out, "{}", if holds { "yes" } else { "no" })
+    let word = if holds { "yes\n" } else { "no\n" };
+    out.write_all(word.as_bytes())
 }
 
 pub fn done(out: &mut impl Write) -> io::Result<()> {
-    writeln!(out, "done")
+    out.write_all(b"done\n")
 }
 
 // Says why the line of a number has no answer.

@@ -1,16 +1,10 @@
 -- `inside::inside_floats` meets its contract. Assumes nothing.
-use Rattle.std.proofs.Common.{rules}
 use Rattle.boxes.specs.Lent.{boxes_in}
-use Rattle.inside.specs.Finish.{lies_outside_of}
 use Rattle.inside.proofs.Finished.{finishes}
 use Rattle.inside.proofs.inside_floats.Goals as goal
 
 pub returns : goal.returns
 returns c =
     let a = c.args in
-    rw (
-      c.finish.ensures,
-      c.first_place_in-found.ensures.first (λ b. lies_outside_of c.coverage_unchecked-area.result b) (λ b r h. search rules),
-      c.coverage_unchecked-area.ensures,
-    )
+    rw (c.finish.ensures, c.first_place_in-found.ensures.first, c.coverage_unchecked-area.ensures)
     (finishes (boxes_in a.floats.now a.n) a.safe a.fringe)

@@ -40,4 +40,4 @@ returns c =
     let a = c.args in
     let al = c.align-up.ensures in
     let ro = c.root_digits-r.ensures in
-    rw c.round_root.ensures (root_parts a.e a.keep a.bias al ro c.requires.d_bound c.requires.le_bias c.requires.e_bound c.requires.bias_bound)
+    rw c.rounded.ensures (root_parts a.e a.keep a.bias al ro c.requires.d_bound c.requires.le_bias c.requires.e_bound c.requires.bias_bound)

@@ -1,6 +1,4 @@
 -- `touch::touch` meets its contract. Assumes nothing.
-use Rattle.std.proofs.Common.{rules}
-use Rattle.covering.specs.Touches.{touches_of}
 use Rattle.touch.specs.Touch.{point_of}
 use Rattle.touch.proofs.Finished.{finishes}
 use Rattle.touch.proofs.touch.Goals as goal
@@ -8,5 +6,4 @@ use Rattle.touch.proofs.touch.Goals as goal
 pub returns : goal.returns
 returns c =
     let a = c.args in
-    rw (c.finish.ensures, c.first_place-found.ensures.first (λ b. touches_of b a.fringe (point_of a.x a.y)) (λ b r h. search rules))
-    (finishes a.fringe (point_of a.x a.y) a.boxes.now)
+    rw (c.finish.ensures, c.first_place-found.ensures.first) (finishes a.fringe (point_of a.x a.y) a.boxes.now)

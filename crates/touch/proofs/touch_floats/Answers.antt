@@ -1,6 +1,4 @@
 -- `touch::touch_floats` meets its contract. Assumes nothing.
-use Rattle.std.proofs.Common.{rules}
-use Rattle.covering.specs.Touches.{touches_of}
 use Rattle.boxes.specs.Lent.{boxes_in}
 use Rattle.touch.specs.Touch.{point_of}
 use Rattle.touch.proofs.Finished.{finishes}
@@ -9,5 +7,4 @@ use Rattle.touch.proofs.touch_floats.Goals as goal
 pub returns : goal.returns
 returns c =
     let a = c.args in
-    rw (c.finish.ensures, c.first_place_in-found.ensures.first (λ b. touches_of b a.fringe (point_of a.x a.y)) (λ b r h. search rules))
-    (finishes a.fringe (point_of a.x a.y) (boxes_in a.floats.now a.n))
+    rw (c.finish.ensures, c.first_place_in-found.ensures.first) (finishes a.fringe (point_of a.x a.y) (boxes_in a.floats.now a.n))
