@@ -1,12 +1,13 @@
 // A list of boxes: what is refused of it, and the first place where something is asked of its boxes.
 // Added to femtovg's calls by document 01, and by document 02, change 10.
 //
-// `first_place` is one thin walk over lent boxes, which asks of each what its caller's type says. `first_place_in` is
-// the same walk over lent floats, ten for each box: its callers hold no list of boxes.
+// `first_asked` is one thin walk over lent boxes, which asks of each what its caller's type says. `first_asked_in` is
+// the same walk over lent floats, ten for each box: its callers hold no list of boxes. `first_place` and
+// `first_place_in` take a closure for what is asked, where the caller knows that it can be called.
 #![tactic(auto)]
 
 ghost use Rattle.std.specs.Prelude.{◌+◌, ◌*◌, ◌≤◌, length, ◌≡◌, Bool};
-ghost use Rattle.boxes.specs.First.{PlaceFits, first_place_of};
+ghost use Rattle.boxes.specs.First.{Tells, PlaceFits, first_place_of};
 ghost use Rattle.boxes.specs.Lent.{frame_at, box_at, boxes_in};
 ghost use Rattle.shape.specs.declared.RoundedBox.{RoundedBox};
 
@@ -27,7 +28,7 @@ pub trait Ask {
 
 // The first place of a list where the ask holds, counted from 0, or the list's first fault: a fault behind a place
 // refuses the list.
-pub fn first_place<A: Ask>(boxes: &[RoundedBox], ask: &A) -> Result<Option<u16>, Fault>
+pub fn first_asked<A: Ask>(boxes: &[RoundedBox], ask: &A) -> Result<Option<u16>, Fault>
     ensures first { result ≡ first_place_of boxes.now (A.asks ask.now) }
     ensures fits { PlaceFits result }
 {
@@ -39,6 +40,28 @@ pub fn first_place<A: Ask>(boxes: &[RoundedBox], ask: &A) -> Result<Option<u16>,
         b.check()?;
         if found.is_none() && ask.holds(*b) {
             found = Some(i as u16);
+        }
+    }
+    Ok(found)
+}
+
+// The first place of a list whose box is asked for, or the list's first fault, where what is asked is a closure.
+pub fn first_place<F: Fn(RoundedBox) -> bool>(
+    boxes: &[RoundedBox],
+    asks: F,
+) -> Result<Option<u16>, Fault>
+    requires { F.IsAlwaysCallable asks }
+    ensures first { (test : RoundedBox → Bool) → Tells (F.post asks) test → result ≡ first_place_of boxes.now test }
+    ensures fits { PlaceFits result }
+{
+    if boxes.len() > MOST_BOXES {
+        return Err(Fault::TooManyBoxes);
+    }
+    let mut found = None;
+    for (place, b) in boxes.iter().enumerate() {
+        b.check()?;
+        if found.is_none() && asks(*b) {
+            found = Some(place as u16);
         }
     }
     Ok(found)
@@ -74,9 +97,9 @@ pub fn box_at(floats: &[f32], at: usize) -> RoundedBox
     }
 }
 
-// `first_place` of the n boxes that the floats begin with.
+// `first_asked` of the n boxes that the floats begin with.
 #[tactic(auto, using(crate::proofs::Lent::left_cons, crate::proofs::Lent::left_length))]
-pub fn first_place_in<A: Ask>(floats: &[f32], n: usize, ask: &A) -> Result<Option<u16>, Fault>
+pub fn first_asked_in<A: Ask>(floats: &[f32], n: usize, ask: &A) -> Result<Option<u16>, Fault>
     requires { n * 10 ≤ length floats.now }
     ensures first { result ≡ first_place_of (boxes_in floats.now n) (A.asks ask.now) }
     ensures fits { PlaceFits result }
@@ -94,3 +117,33 @@ pub fn first_place_in<A: Ask>(floats: &[f32], n: usize, ask: &A) -> Result<Optio
     }
     Ok(found)
 }
+
+// `first_place` of the n boxes that the floats begin with.
+#[tactic(auto, using(crate::proofs::Lent::left_cons, crate::proofs::Lent::left_length))]
+pub fn first_place_in<F: Fn(RoundedBox) -> bool>(
+    floats: &[f32],
+    n: usize,
+    asks: F,
+) -> Result<Option<u16>, Fault>
+    requires lent { n * 10 ≤ length floats.now }
+    requires callable { F.IsAlwaysCallable asks }
+    ensures first { (test : RoundedBox → Bool) → Tells (F.post asks) test
+        → result ≡ first_place_of (boxes_in floats.now n) test }
+    ensures fits { PlaceFits result }
+{
+    if n > MOST_BOXES {
+        return Err(Fault::TooManyBoxes);
+    }
+    let mut found = None;
+    for place in 0..n {
+        let b = box_at(floats, place * 10);
+        b.check()?;
+        if found.is_none() && asks(b) {
+            found = Some(place as u16);
+        }
+    }
+    Ok(found)
+}
+
+#[cfg(test)]
+mod tests;

@@ -89,7 +89,7 @@ pub fn all_inside(
     ensures { result ≡ inside_call boxes.now safe fringe }
 {
     let area = covering::coverage_unchecked(safe, fringe);
-    let found = boxes::first_place(boxes, &Outlying { area });
+    let found = boxes::first_asked(boxes, &Outlying { area });
     finish(found, area, safe, fringe)
 }
 
@@ -105,6 +105,6 @@ pub fn inside_floats(
     ensures { result ≡ inside_call (boxes_in floats.now n) safe fringe }
 {
     let area = covering::coverage_unchecked(safe, fringe);
-    let found = boxes::first_place_in(floats, n, &Outlying { area });
+    let found = boxes::first_asked_in(floats, n, &Outlying { area });
     finish(found, area, safe, fringe)
 }

@@ -48,7 +48,7 @@ pub fn touch(boxes: &[RoundedBox], fringe: f32, x: f32, y: f32) -> Result<Option
     ensures { result ≡ touch_call boxes.now fringe (point_of x y) }
 {
     let p = Position { x, y };
-    let found = boxes::first_place(boxes, &Touching { fringe, p });
+    let found = boxes::first_asked(boxes, &Touching { fringe, p });
     finish(found, fringe, p)
 }
 
@@ -65,6 +65,6 @@ pub fn touch_floats(
     ensures { result ≡ touch_call (boxes_in floats.now n) fringe (point_of x y) }
 {
     let p = Position { x, y };
-    let found = boxes::first_place_in(floats, n, &Touching { fringe, p });
+    let found = boxes::first_asked_in(floats, n, &Touching { fringe, p });
     finish(found, fringe, p)
 }

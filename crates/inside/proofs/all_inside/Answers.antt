@@ -5,4 +5,4 @@ use Rattle.inside.proofs.all_inside.Goals as goal
 pub returns : goal.returns
 returns c =
     let a = c.args in
-    rw (c.finish.ensures, c.first_place-found.ensures.first, c.coverage_unchecked-area.ensures) (finishes a.boxes.now a.safe a.fringe)
+    rw (c.finish.ensures, c.first_asked-found.ensures.first, c.coverage_unchecked-area.ensures) (finishes a.boxes.now a.safe a.fringe)

@@ -7,4 +7,4 @@ use Rattle.touch.proofs.touch_floats.Goals as goal
 pub returns : goal.returns
 returns c =
     let a = c.args in
-    rw (c.finish.ensures, c.first_place_in-found.ensures.first) (finishes a.fringe (point_of a.x a.y) (boxes_in a.floats.now a.n))
+    rw (c.finish.ensures, c.first_asked_in-found.ensures.first) (finishes a.fringe (point_of a.x a.y) (boxes_in a.floats.now a.n))
